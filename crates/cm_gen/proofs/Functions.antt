@@ -1,0 +1,227 @@
+-- What the code before and after a function's body does.
+use Rattle.std.proofs.Common.{◌≡◌, ◌≢◌, ℕ, zero, suc, ◌+◌, ◌-◌, ◌*◌, ◌%◌, ◌^◌, ◌<◌, ◌≤◌, List, [], ◌∷◌, ◌++◌, length, Option, None, Some, refl, sym, ap, ◌∙◌, subst, arith, rules, inl, inr, length-append, eq-eqb}
+use Rattle.std.proofs.lemmas.Bool.{ne_eqb, le-ltb}
+use Rattle.std.proofs.lemmas.Int.{ints}
+use Rattle.std.proofs.lemmas.Bool.Decides.{eqb_tells}
+use Rattle.std.specs.Prelude.{Bool, true, false, not, ◌==◌, nat_lt, if◌then◌else◌, ℤ, pos, negsuc, ◌+ℤ◌, ◌-ℤ◌, FitsSigned, IsSome}
+use Rattle.std.specs.Int.{w32, cast_unsigned}
+use Rattle.cm_isa.specs.Operation.{Operation}
+use Rattle.cm_isa.specs.Alu.{int, word, offset}
+use Rattle.cm_isa.specs.Effect.{follow}
+use Rattle.cm_gen.specs.Machine.{Machine, Code, ComesTo, StandsAt, after, moved, with_register, with_word}
+use Rattle.cm_gen.specs.Operations.{addi, add, sub, lw, sw, jal, jalr, bne, bgeu, ecall}
+use Rattle.cm_gen.specs.Code.{load_number, service, tick}
+use Rattle.cm_gen.proofs.WordLemmas as words
+use Rattle.cm_gen.proofs.Steps.{comes_by_one, comes_on, stands_front, stands_back, follow_is, load_word, store_word}
+use Rattle.cm_gen.proofs.PatternLaws.{Sets, load_number_runs}
+use Rattle.cm_gen.proofs.Expressions.{some_of, with_word_mapped}
+
+-- ---- one machine in two forms
+
+pub same_machine : (m n : Machine) → m.registers ≡ n.registers → m.counter ≡ n.counter → m.words ≡ n.words → m ≡ n
+same_machine m n r c w = λ i. record { registers = r i; counter = c i; words = w i }
+
+pub same_registers : (r s : ℕ → ℕ) → ((q : ℕ) → r q ≡ s q) → r ≡ s
+same_registers r s h = λ i q. h q i
+
+-- a machine that differs in one register and its place
+pub sets_is : (r v bytes : ℕ) (m t : Machine) → (r == 0) ≡ false → Sets r v bytes m t → t ≡ moved m (with_register m.registers r v) (m.counter + bytes)
+sets_is r v bytes m t nonzero does = same_machine t _ (same_registers t.registers _ each) does.counter does.words
+  where
+    each : (q : ℕ) → t.registers q ≡ with_register m.registers r v q
+    each q = elim (eqb_tells q r) [
+        inl same ↦ let there : (q == r) ≡ true = same.0 in rw (nonzero, there) (ap t.registers same.1 ∙ does.value)
+      | inr other ↦ let away : (q == r) ≡ false = other.0 in rw (nonzero, away) (does.kept q away)
+      ]
+
+-- ---- single instructions
+
+-- where a branch goes to, past two instructions of a service
+over_service : (p : ℕ) → p % 4 ≡ 0 → p + 12 < 2 ^ 32 → (offset p (pos 12) ≡ p + 12) × ((p + 12) % 4 ≡ 0)
+over_service p aligned room = (words.offset_up p 12 room, omega arith)
+
+module _ (code : Code) where
+  -- a branch past a service, which is taken
+  bne_taken : (m : Machine) → m.registers 0 ≡ 0 → m.registers 4 ≢ 0 → m.counter % 4 ≡ 0 → m.counter + 12 < 2 ^ 32
+      → after (bne 4 0 (pos 12)) m ≡ Some (moved m m.registers (m.counter + 12))
+  bne_taken m zero_is some aligned room =
+      let over = over_service m.counter aligned room in
+      let differ : (m.registers 4 == 0) ≡ false = ne_eqb (m.registers 4) 0 some in
+      rw (zero_is, differ, over.0, over.1) refl
+
+  bgeu_taken : (m : Machine) → m.registers 7 ≤ m.registers 3 → m.counter % 4 ≡ 0 → m.counter + 12 < 2 ^ 32
+      → after (bgeu 3 7 (pos 12)) m ≡ Some (moved m m.registers (m.counter + 12))
+  bgeu_taken m most aligned room =
+      let over = over_service m.counter aligned room in
+      let least : nat_lt (m.registers 3) (m.registers 7) ≡ false = le-ltb (m.registers 3) (m.registers 7) most in
+      rw (least, over.0, over.1) refl
+
+  -- one instruction that sets a register, at a place that is known
+  pub set_at : (i : Operation) (r v p : ℕ) (m : Machine) → m.counter ≡ p → p + 4 < 2 ^ 32 → code p i
+      → after i m ≡ Some (moved m (with_register m.registers r v) (follow m.counter))
+      → ComesTo code 1 m (moved m (with_register m.registers r v) (p + 4))
+  set_at i r v p m here room stands effect =
+      comes_by_one code i m _ (subst (λ n. code n i) (sym here) stands)
+      (effect ∙ ap (λ c. Some (moved m (with_register m.registers r v) c)) (ap follow here ∙ follow_is p room))
+
+  -- one instruction that stores a register's word, at a place that is known
+  put_at : (source base p a old : ℕ) (o : ℤ) (m : Machine) → m.counter ≡ p → p + 4 < 2 ^ 32 → code p (sw source base o)
+      → offset (m.registers base) o ≡ a → a % 4 ≡ 0 → m.words a ≡ Some old
+      → ComesTo code 1 m (record { registers = m.registers; counter = p + 4; words = with_word m.words a (m.registers source) })
+  put_at source base p a old o m here room stands place aligned there =
+      let next : ℕ → Machine = λ c. record { registers = m.registers; counter = c; words = with_word m.words a (m.registers source) } in
+      let effect : after (sw source base o) m ≡ Some (next (follow m.counter)) = rw place (store_word 0 a (m.registers source) old m aligned there) in
+      comes_by_one code (sw source base o) m (next (p + 4)) (subst (λ n. code n (sw source base o)) (sym here) stands)
+      (effect ∙ ap (λ c. Some (next c)) (ap follow here ∙ follow_is p room))
+
+  -- a number in a register, at a place that is known
+  pub number_at : (r n : ℕ) (p : ℕ) (m : Machine) → (r == 0) ≡ false → m.registers 0 ≡ 0 → n < 2 ^ 31 → m.counter ≡ p → p + 8 < 2 ^ 32
+      → StandsAt code p (load_number r (pos n))
+      → ComesTo code (length (load_number r (pos n))) m (moved m (with_register m.registers r n) (p + 4 * length (load_number r (pos n))))
+  number_at r n p m nonzero zero_is fits here room stands =
+      let word : FitsSigned w32 (pos n) = omega (arith, ints) in
+      let ran = load_number_runs code r (pos n) m nonzero zero_is word (omega arith) (subst (λ q. StandsAt code q (load_number r (pos n))) (sym here) stands) in
+      let is = sets_is r n (4 * length (load_number r (pos n))) m ran.0 nonzero ran.2 ∙ ap (λ c. moved m (with_register m.registers r n) (c + 4 * length (load_number r (pos n)))) here in
+      subst (λ t. ComesTo code (length (load_number r (pos n))) m t) is ran.1
+
+  -- a tick is taken
+  pub tick_runs : (p : ℕ) (m : Machine) → m.registers 0 ≡ 0 → m.registers 4 ≢ 0 → m.registers 4 < 2 ^ 32 → p % 4 ≡ 0 → m.counter ≡ p → p + 16 < 2 ^ 32 → StandsAt code p tick
+      → ComesTo code 2 m (moved m (with_register m.registers 4 (m.registers 4 - 1)) (p + 16))
+  tick_runs p m zero_is some fits aligned here room stands =
+      let first = comes_by_one code (bne 4 0 (pos 12)) m (moved m m.registers (m.counter + 12)) (subst (λ n. code n (bne 4 0 (pos 12))) (sym here) stands.0)
+          (bne_taken m zero_is some (omega (arith, here)) (omega (arith, here))) in
+      let less : word (int (m.registers 4) +ℤ int (cast_unsigned w32 (negsuc 0))) ≡ m.registers 4 - 1 =
+        words.word-add (m.registers 4) (2 ^ 32 - 1) fits (omega arith) ∙ omega (arith, some) in
+      let place : p + 4 + 4 + 4 ≡ p + 12 = omega arith in
+      let second = set_at (addi 4 4 (negsuc 0)) 4 (m.registers 4 - 1) (p + 12) (moved m m.registers (m.counter + 12)) (ap (λ c. c + 12) here) (omega arith)
+          (subst (λ n. code n (addi 4 4 (negsuc 0))) place stands.1.1.1.0) (ap (λ v. Some (moved m (with_register m.registers 4 v) (follow (m.counter + 12)))) less) in
+      let sum : p + 12 + 4 ≡ p + 16 = omega arith in
+      comes_on code 1 1 m _ _ first (subst (λ c. ComesTo code 1 (moved m m.registers (m.counter + 12)) (moved m (with_register m.registers 4 (m.registers 4 - 1)) c)) sum second)
+
+  -- the account is tested and taken
+  pub account_runs : (q p : ℕ) (m : Machine) → m.registers 0 ≡ 0 → m.registers 3 < 2 ^ 32 → q ≤ m.registers 3 → q < 2 ^ 31 → p % 4 ≡ 0 → m.counter ≡ p
+      → p + 4 * length (load_number 7 (pos q)) + 24 < 2 ^ 32
+      → StandsAt code p (load_number 7 (pos q)) → code (p + 4 * length (load_number 7 (pos q))) (bgeu 3 7 (pos 12))
+      → code (p + 4 * length (load_number 7 (pos q)) + 12) (sub 3 3 7)
+      → ComesTo code (length (load_number 7 (pos q)) + 2) m
+          (moved m (with_register (with_register m.registers 7 q) 3 (m.registers 3 - q)) (p + 4 * length (load_number 7 (pos q)) + 16))
+  account_runs q p m zero_is fits enough small aligned here room stands test last =
+      account_by (length (load_number 7 (pos q))) (number_at 7 q p m refl zero_is small here (omega arith) stands) room test last
+    where
+      account_by : (size : ℕ) → ComesTo code size m (moved m (with_register m.registers 7 q) (p + 4 * size)) → p + 4 * size + 24 < 2 ^ 32
+          → code (p + 4 * size) (bgeu 3 7 (pos 12)) → code (p + 4 * size + 12) (sub 3 3 7)
+          → ComesTo code (size + 2) m (moved m (with_register (with_register m.registers 7 q) 3 (m.registers 3 - q)) (p + 4 * size + 16))
+      account_by size loaded room test last =
+          let n = moved m (with_register m.registers 7 q) (p + 4 * size) in
+          let o = moved m (with_register m.registers 7 q) (p + 4 * size + 12) in
+          let second = comes_by_one code (bgeu 3 7 (pos 12)) n o test (bgeu_taken n enough (omega arith) (omega arith)) in
+          let value : word (int (m.registers 3) -ℤ int q) ≡ m.registers 3 - q = words.word-sub (m.registers 3) q fits (omega arith) ∙ omega arith in
+          let third = set_at (sub 3 3 7) 3 (m.registers 3 - q) (p + 4 * size + 12) o refl (omega arith) last
+              (ap (λ v. Some (moved o (with_register o.registers 3 v) (follow o.counter))) value) in
+          let sum : p + 4 * size + 12 + 4 ≡ p + 4 * size + 16 = omega arith in
+          comes_on code size 2 m n _ loaded (comes_on code 1 1 n o _ second
+            (subst (λ c. ComesTo code 1 o (moved m (with_register (with_register m.registers 7 q) 3 (m.registers 3 - q)) c)) sum third))
+
+-- the addresses that a call's frame and saved words have
+pub record IsFrameBelow (b sp : ℕ) (w : ℕ → Option ℕ) : Type 0 where
+  pub aligned : sp % 4 ≡ 0
+  pub whole : b % 4 ≡ 0
+  pub least : 8 ≤ b
+  pub most : b ≤ sp
+  pub word : sp < 2 ^ 32
+  pub small : b < 2 ^ 31
+  pub mapped : (a : ℕ) → a % 4 ≡ 0 → sp - b ≤ a → a < sp → IsSome (w a)
+
+-- the registers and the words that the frame's code leaves
+abbrev pub framed_registers : (b : ℕ) → (ℕ → ℕ) → ℕ → ℕ
+framed_registers b r = with_register (with_register (with_register (with_register r 7 b) 2 (r 2 - b)) 7 (r 2)) 8 (r 2)
+
+abbrev pub framed_words : (b : ℕ) → (ℕ → ℕ) → (ℕ → Option ℕ) → ℕ → Option ℕ
+framed_words b r w = with_word (with_word (with_word w (r 2 - b) (r 0)) (r 2 - 4) (r 1)) (r 2 - 8) (r 8)
+
+module _ (code : Code) where
+  pub frame_by : (b p : ℕ) (r : ℕ → ℕ) (w : ℕ → Option ℕ) (m : Machine) (size : ℕ) → r 0 ≡ 0 → IsFrameBelow b (r 2) w → p + 24 < 2 ^ 32
+      → StandsAt code p (sub 2 2 7 ∷ sw 0 2 (pos 0) ∷ add 7 2 7 ∷ sw 1 7 (negsuc 3) ∷ sw 8 7 (negsuc 7) ∷ addi 8 7 (pos 0) ∷ [])
+      → ComesTo code size m (record { registers = with_register r 7 b; counter = p; words = w })
+      → ComesTo code (size + 6) m (record { registers = framed_registers b r; counter = p + 24; words = framed_words b r w })
+  frame_by b p r w m size zero_is frame room stands loaded =
+      let sp = r 2 in
+      let low = sp - b in
+      let r0 = with_register r 7 b in
+      let r1 = with_register r0 2 low in
+      let r2 = with_register r1 7 sp in
+      let r3 = with_register r2 8 sp in
+      let w1 = with_word w low (r 0) in
+      let w2 = with_word w1 (sp - 4) (r 1) in
+      let w3 = with_word w2 (sp - 8) (r 8) in
+      let m0 : Machine = record { registers = r0; counter = p; words = w } in
+      let m1 : Machine = record { registers = r1; counter = p + 4; words = w } in
+      let m2 : Machine = record { registers = r1; counter = p + 4 + 4; words = w1 } in
+      let m3 : Machine = record { registers = r2; counter = p + 4 + 4 + 4; words = w1 } in
+      let m4 : Machine = record { registers = r2; counter = p + 4 + 4 + 4 + 4; words = w2 } in
+      let m5 : Machine = record { registers = r2; counter = p + 4 + 4 + 4 + 4 + 4; words = w3 } in
+      let m6 : Machine = record { registers = r3; counter = p + 4 + 4 + 4 + 4 + 4 + 4; words = w3 } in
+      let below : word (int sp -ℤ int b) ≡ low = words.word-sub sp b frame.word (omega (arith, frame.small)) ∙ omega (arith, frame.most, frame.word) in
+      let above : word (int low +ℤ int b) ≡ sp = words.word-add low b (omega (arith, frame.word)) (omega (arith, frame.small)) ∙ omega (arith, frame.most, frame.word) in
+      let copied : word (int sp +ℤ int (cast_unsigned w32 (pos 0))) ≡ sp = words.word-add sp 0 frame.word (omega arith) ∙ omega (arith, frame.word) in
+      let at_low : offset low (pos 0) ≡ low = words.offset_up low 0 (omega (arith, frame.word)) ∙ omega arith in
+      let at_4 : offset sp (negsuc 3) ≡ sp - 4 = words.offset_down sp 4 (omega (arith, frame.least, frame.most)) frame.word (negsuc 3) (omega (arith, ints, frame.least, frame.most)) in
+      let at_8 : offset sp (negsuc 7) ≡ sp - 8 = words.offset_down sp 8 (omega (arith, frame.least, frame.most)) frame.word (negsuc 7) (omega (arith, ints, frame.least, frame.most)) in
+      let low_4 : low % 4 ≡ 0 = omega (arith, frame.aligned, frame.whole, frame.most) in
+      let four_4 : (sp - 4) % 4 ≡ 0 = omega (arith, frame.aligned, frame.least, frame.most) in
+      let eight_4 : (sp - 8) % 4 ≡ 0 = omega (arith, frame.aligned, frame.least, frame.most) in
+      let there_low = some_of (w low) (frame.mapped low low_4 (omega arith) (omega (arith, frame.least, frame.most))) in
+      let there_4 = some_of (w1 (sp - 4)) (with_word_mapped w low (r 0) (sp - 4) (frame.mapped (sp - 4) four_4 (omega (arith, frame.least, frame.most)) (omega (arith, frame.least, frame.most)))) in
+      let there_8 = some_of (w2 (sp - 8)) (with_word_mapped w1 (sp - 4) (r 1) (sp - 8) (with_word_mapped w low (r 0) (sp - 8) (frame.mapped (sp - 8) eight_4 (omega (arith, frame.least, frame.most)) (omega (arith, frame.least, frame.most))))) in
+      let s1 : ComesTo code 1 m0 m1 = set_at code (sub 2 2 7) 2 low p m0 refl (omega arith) stands.0 (ap (λ v. Some (moved m0 (with_register r0 2 v) (follow p))) below) in
+      let s2 : ComesTo code 1 m1 m2 = put_at code 0 2 (p + 4) low there_low.0 (pos 0) m1 refl (omega arith) stands.1.0 at_low low_4 there_low.1 in
+      let s3 : ComesTo code 1 m2 m3 = set_at code (add 7 2 7) 7 sp (p + 4 + 4) m2 refl (omega arith) stands.1.1.0 (ap (λ v. Some (moved m2 (with_register r1 7 v) (follow (p + 4 + 4)))) above) in
+      let s4 : ComesTo code 1 m3 m4 = put_at code 1 7 (p + 4 + 4 + 4) (sp - 4) there_4.0 (negsuc 3) m3 refl (omega arith) stands.1.1.1.0 at_4 four_4 there_4.1 in
+      let s5 : ComesTo code 1 m4 m5 = put_at code 8 7 (p + 4 + 4 + 4 + 4) (sp - 8) there_8.0 (negsuc 7) m4 refl (omega arith) stands.1.1.1.1.0 at_8 eight_4 there_8.1 in
+      let s6 : ComesTo code 1 m5 m6 = set_at code (addi 8 7 (pos 0)) 8 sp (p + 4 + 4 + 4 + 4 + 4) m5 refl (omega arith) stands.1.1.1.1.1.0 (ap (λ v. Some (moved m5 (with_register r2 8 v) (follow (p + 4 + 4 + 4 + 4 + 4)))) copied) in
+      let sum : p + 4 + 4 + 4 + 4 + 4 + 4 ≡ p + 24 = omega arith in
+      let six : ComesTo code 6 m0 m6 = comes_on code 1 5 m0 m1 m6 s1 (comes_on code 1 4 m1 m2 m6 s2 (comes_on code 1 3 m2 m3 m6 s3 (comes_on code 1 2 m3 m4 m6 s4 (comes_on code 1 1 m4 m5 m6 s5 s6)))) in
+      comes_on code size 6 m m0 _ loaded (subst (λ c. ComesTo code 6 m0 (record { registers = r3; counter = c; words = w3 })) sum six)
+
+-- the registers that the code after a body leaves
+abbrev pub left_registers : (q back pointer : ℕ) → (ℕ → ℕ) → ℕ → ℕ
+left_registers q back pointer r = with_register (with_register (with_register (with_register (with_register (with_register r 7 q) 3 (r 3 + q)) 10 (r 5)) 1 back) 2 (r 8)) 8 pointer
+
+module _ (code : Code) where
+  pub leave_by : (q p back pointer : ℕ) (r : ℕ → ℕ) (w : ℕ → Option ℕ) (m : Machine) (size : ℕ) → r 8 % 4 ≡ 0 → 8 ≤ r 8 → r 8 < 2 ^ 32 → r 5 < 2 ^ 32 → r 3 + q < 2 ^ 32
+      → w (r 8 - 4) ≡ Some back → w (r 8 - 8) ≡ Some pointer → back % 4 ≡ 0 → back < 2 ^ 32 → p + 24 < 2 ^ 32
+      → StandsAt code p (add 3 3 7 ∷ addi 10 5 (pos 0) ∷ lw 1 8 (negsuc 3) ∷ addi 2 8 (pos 0) ∷ lw 8 8 (negsuc 7) ∷ jalr 0 1 (pos 0) ∷ [])
+      → ComesTo code size m (record { registers = with_register r 7 q; counter = p; words = w })
+      → ComesTo code (size + 6) m (record { registers = left_registers q back pointer r; counter = back; words = w })
+  leave_by q p back pointer r w m size aligned least fits8 five account there_4 there_8 back_4 back_word room stands loaded =
+      let f = r 8 in
+      let r0 = with_register r 7 q in
+      let r1 = with_register r0 3 (r 3 + q) in
+      let r2 = with_register r1 10 (r 5) in
+      let r3 = with_register r2 1 back in
+      let r4 = with_register r3 2 f in
+      let r5 = with_register r4 8 pointer in
+      let m0 : Machine = record { registers = r0; counter = p; words = w } in
+      let m1 : Machine = record { registers = r1; counter = p + 4; words = w } in
+      let m2 : Machine = record { registers = r2; counter = p + 4 + 4; words = w } in
+      let m3 : Machine = record { registers = r3; counter = p + 4 + 4 + 4; words = w } in
+      let m4 : Machine = record { registers = r4; counter = p + 4 + 4 + 4 + 4; words = w } in
+      let m5 : Machine = record { registers = r5; counter = p + 4 + 4 + 4 + 4 + 4; words = w } in
+      let m6 : Machine = record { registers = r5; counter = back; words = w } in
+      let paid : word (int (r 3) +ℤ int q) ≡ r 3 + q = words.word-add (r 3) q (omega arith) (omega arith) ∙ omega arith in
+      let result : word (int (r 5) +ℤ int (cast_unsigned w32 (pos 0))) ≡ r 5 = words.word-add (r 5) 0 five (omega arith) ∙ omega arith in
+      let copied : word (int f +ℤ int (cast_unsigned w32 (pos 0))) ≡ f = words.word-add f 0 fits8 (omega arith) ∙ omega arith in
+      let at_4 : offset f (negsuc 3) ≡ f - 4 = words.offset_down f 4 (omega arith) fits8 (negsuc 3) (omega (arith, ints)) in
+      let at_8 : offset f (negsuc 7) ≡ f - 8 = words.offset_down f 8 (omega arith) fits8 (negsuc 7) (omega (arith, ints)) in
+      let four_4 : (f - 4) % 4 ≡ 0 = omega arith in
+      let eight_4 : (f - 8) % 4 ≡ 0 = omega arith in
+      let at_back : offset back (pos 0) ≡ back = words.offset_up back 0 (omega arith) ∙ omega arith in
+      let even : back - back % 2 ≡ back = omega arith in
+      let s1 : ComesTo code 1 m0 m1 = set_at code (add 3 3 7) 3 (r 3 + q) p m0 refl (omega arith) stands.0 (ap (λ v. Some (moved m0 (with_register r0 3 v) (follow p))) paid) in
+      let s2 : ComesTo code 1 m1 m2 = set_at code (addi 10 5 (pos 0)) 10 (r 5) (p + 4) m1 refl (omega arith) stands.1.0 (ap (λ v. Some (moved m1 (with_register r1 10 v) (follow (p + 4)))) result) in
+      let s3 : ComesTo code 1 m2 m3 = set_at code (lw 1 8 (negsuc 3)) 1 back (p + 4 + 4) m2 refl (omega arith) stands.1.1.0 (rw at_4 (load_word 1 (f - 4) back m2 four_4 there_4)) in
+      let s4 : ComesTo code 1 m3 m4 = set_at code (addi 2 8 (pos 0)) 2 f (p + 4 + 4 + 4) m3 refl (omega arith) stands.1.1.1.0 (ap (λ v. Some (moved m3 (with_register r3 2 v) (follow (p + 4 + 4 + 4)))) copied) in
+      let s5 : ComesTo code 1 m4 m5 = set_at code (lw 8 8 (negsuc 7)) 8 pointer (p + 4 + 4 + 4 + 4) m4 refl (omega arith) stands.1.1.1.1.0 (rw at_8 (load_word 8 (f - 8) pointer m4 eight_4 there_8)) in
+      let s6 : ComesTo code 1 m5 m6 = comes_by_one code (jalr 0 1 (pos 0)) m5 m6 stands.1.1.1.1.1.0 (rw (at_back, even, back_4) refl) in
+      let six : ComesTo code 6 m0 m6 = comes_on code 1 5 m0 m1 m6 s1 (comes_on code 1 4 m1 m2 m6 s2 (comes_on code 1 3 m2 m3 m6 s3 (comes_on code 1 2 m3 m4 m6 s4 (comes_on code 1 1 m4 m5 m6 s5 s6)))) in
+      comes_on code size 6 m m0 m6 loaded six

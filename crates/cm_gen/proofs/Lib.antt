@@ -1,0 +1,10 @@
+pub mod WordLemmas
+pub mod Steps
+pub mod PatternLaws
+pub mod Expressions
+pub mod Functions
+pub mod Program
+pub mod Image
+pub mod Emitted
+pub mod Trees
+pub mod Bridge

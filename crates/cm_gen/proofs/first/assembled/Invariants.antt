@@ -1,0 +1,7 @@
+use Rattle.std.proofs.Common.{take}
+use Rattle.cm_gen.specs.Run.{AreWordsOf}
+use Rattle.cm_gen.proofs.first.assembled.Given as goal
+
+-- the words so far are those of the instructions so far
+abbrev pub invariant-loop-instr : goal.invariant-loop-instr
+invariant-loop-instr l = AreWordsOf l.words (take l.instr-index l.code)

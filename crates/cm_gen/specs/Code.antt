@@ -1,0 +1,104 @@
+-- The code of a program of one function `int main() { return E; }`, by its patterns.
+--
+-- Registers: 1 return address, 2 stack pointer, 3 account left, 4 ticks left, 5 value, 6 and 7 help,
+-- 8 frame pointer, 10 result, 31 service number. The frame pointer is the address just above the frame.
+use Rattle.std.specs.Prelude.{ℕ, ◌+◌, ◌*◌, ◌/◌, ℤ, pos, negsuc, neg_ℤ, ◌+ℤ◌, ◌-ℤ◌, int_le, Bool, ◌&&◌, if◌then◌else◌, List, [], ◌∷◌, ◌++◌}
+use Rattle.std.specs.Int.{int_rem_euclid}
+use Rattle.cm_isa.specs.Operation.{Operation}
+use Rattle.cm_syntax.specs.declared.expr.Op.{Op}
+use Rattle.cm_syntax.specs.declared.expr.Op.TheVariants.{Mul, Add, Sub}
+use Rattle.cm_syntax.specs.declared.expr.Expr.{Expr}
+use Rattle.cm_syntax.specs.declared.expr.Expr.TheVariants.{Number, Scalar}
+use Rattle.cm_syntax.specs.Shape.{Joined}
+use Rattle.cm_syntax.specs.Expr.{temporaries}
+use Rattle.cm_syntax.specs.Word.{wrapped}
+use Rattle.cm_gen.specs.Operations.{lui, addi, add, sub, mul, lw, sw, jal, jalr, bne, bgeu, ecall}
+
+-- ---- numbers in instructions
+
+-- a number that fits an immediate of 12 bits
+abbrev pub is_near : ℤ → Bool
+is_near v = int_le (negsuc 2047) v && int_le v (pos 2047)
+
+-- the low 12 bits of a number, as a signed number
+abbrev pub low_part : ℤ → ℤ
+low_part v = int_rem_euclid (v +ℤ pos 2048) (pos 4096) -ℤ pos 2048
+
+-- what is left of the number above them, as a word whose low 12 bits are 0
+abbrev pub high_part : ℤ → ℤ
+high_part v = wrapped (v -ℤ low_part v)
+
+-- ---- patterns
+
+-- the register takes a number
+abbrev pub load_number : (r : ℕ) → (n : ℤ) → List Operation
+load_number r n = if is_near n then addi r 0 n ∷ [] else lui r (high_part n) ∷ addi r r (low_part n) ∷ []
+
+-- the register takes the word at an offset from the frame pointer
+abbrev pub load_slot : (r : ℕ) → (offset : ℤ) → List Operation
+load_slot r o = if is_near o then lw r 8 o ∷ [] else lui r (high_part o) ∷ add r r 8 ∷ lw r r (low_part o) ∷ []
+
+-- the word at an offset from the frame pointer becomes the register's
+abbrev pub store_slot : (r : ℕ) → (offset : ℤ) → List Operation
+store_slot r o = if is_near o then sw r 8 o ∷ [] else lui 7 (high_part o) ∷ add 7 7 8 ∷ sw r 7 (low_part o) ∷ []
+
+-- a service of the environment
+abbrev pub service : (number : ℤ) → List Operation
+service n = addi 31 0 n ∷ ecall ∷ []
+
+-- one tick is taken; where none is left, service 6 ends the run as spent
+abbrev pub tick : List Operation
+tick = bne 4 0 (pos 12) ∷ (service (pos 6) ++ addi 4 4 (negsuc 0) ∷ [])
+
+-- ---- expressions
+
+-- the offset of temporary j in a frame whose slots have so many words
+abbrev pub temporary : (slots j : ℕ) → ℤ
+temporary slots j = neg_ℤ (pos (4 * (3 + slots + j)))
+
+-- the operator, with its left operand in register 6 and its right one in register 5
+abbrev pub operate : Op → Operation
+operate Mul = mul 5 6 5
+operate Add = add 5 6 5
+operate Sub = sub 5 6 5
+
+-- register 5 takes the expression's value; d temporaries are in use before
+abbrev pub evaluate : (slots : ℕ) → Expr ℕ → (d : ℕ) → List Operation
+evaluate slots (Number n) d = load_number 5 n
+evaluate slots (Scalar mark) d = []
+evaluate slots (Joined op left right) d =
+    evaluate slots left d ++ (store_slot 5 (temporary slots d) ++ (evaluate slots right (d + 1) ++ (load_slot 6 (temporary slots d) ++ operate op ∷ [])))
+
+-- ---- functions
+
+-- the words of a frame: return address, frame pointer, slots and temporaries, rounded up to a multiple of 4
+abbrev pub frame_words : (slots temporaries : ℕ) → ℕ
+frame_words slots temporaries = (2 + slots + temporaries + 3) / 4 * 4
+
+-- so many bytes are taken of the account; where they aren't left, service 9 ends the run with the trap `stack`
+abbrev pub take_account : (q : ℕ) → List Operation
+take_account q = load_number 7 (pos q) ++ (bgeu 3 7 (pos 12) ∷ (service (pos 9) ++ sub 3 3 7 ∷ []))
+
+-- a frame of so many bytes below the stack pointer, with the return address and the caller's frame pointer saved
+abbrev pub make_frame : (b : ℕ) → List Operation
+make_frame b = load_number 7 (pos b) ++ (sub 2 2 7 ∷ sw 0 2 (pos 0) ∷ add 7 2 7 ∷ sw 1 7 (negsuc 3) ∷ sw 8 7 (negsuc 7) ∷ addi 8 7 (pos 0) ∷ [])
+
+-- the code before a function's body: the tick, the account, the frame; b is the frame's bytes and q what a call takes of the account
+abbrev pub entry : (b q : ℕ) → List Operation
+entry b q = tick ++ (take_account q ++ make_frame b)
+
+-- the code after a function's body
+abbrev pub leave : (q : ℕ) → List Operation
+leave q = load_number 7 (pos q) ++ (add 3 3 7 ∷ addi 10 5 (pos 0) ∷ lw 1 8 (negsuc 3) ∷ addi 2 8 (pos 0) ∷ lw 8 8 (negsuc 7) ∷ jalr 0 1 (pos 0) ∷ [])
+
+-- the bytes of main's frame
+abbrev pub frame_bytes : Expr ℕ → ℕ
+frame_bytes e = 4 * frame_words 0 (temporaries e 0)
+
+-- `return E;` at the end of a body jumps past the 0 that a function that falls off its end returns
+abbrev pub main_code : Expr ℕ → List Operation
+main_code e = let b = frame_bytes e in entry b b ++ (evaluate 0 e 0 ++ (jal 0 (pos 8) ∷ addi 5 0 (pos 0) ∷ leave b))
+
+-- the image: the end service at address 0, the table of functions at address 8, and main
+abbrev pub first_code : Expr ℕ → List Operation
+first_code e = service (pos 0) ++ (jal 0 (pos 4) ∷ main_code e)

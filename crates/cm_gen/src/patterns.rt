@@ -1,0 +1,169 @@
+//! The patterns of the code. Each function puts the instructions of one pattern at the end of a list.
+#![tactic(auto, using(crate::proofs::Emitted::emitted))]
+
+ghost use Rattle.std.specs.Prelude.{◌≡◌, ◌+◌, ◌*◌, ◌<◌, ◌≤◌, ◌%◌, ◌^◌, [], ◌∷◌, ◌++◌, IsTrue, OnOk, ℤ, pos, unsigned_abs};
+ghost use Rattle.cm_isa.specs.Bits.{IsSigned};
+ghost use Rattle.cm_gen.specs.Operations as operation;
+ghost use Rattle.cm_gen.specs.Code as pattern;
+
+use crate::instructions::{add, addi, bgeu, bne, ecall, jalr, lui, lw, sub, sw};
+use cm_isa::Instr;
+use cm_text::{List, Memory};
+
+/// The frame pointer.
+pub(crate) const FRAME: u8 = 8;
+
+/// Whether a number fits an immediate of 12 bits.
+fn is_near(number: i32) -> bool
+    ensures value { result ≡ pattern.is_near number }
+    ensures fits { IsTrue result → IsSigned 12 number }
+{
+    -2048 <= number && number <= 2047
+}
+
+/// The low 12 bits of a number, as a signed number.
+fn low_part(number: i32) -> i32
+    ensures value { result ≡ pattern.low_part number }
+    ensures fits { IsSigned 12 result }
+{
+    number.wrapping_add(2048).rem_euclid(4096) - 2048
+}
+
+/// What is left of a number above its low part, modulo 2^32: its low 12 bits are 0.
+fn high_part(number: i32) -> i32
+    ensures value { result ≡ pattern.high_part number }
+    ensures upper { unsigned_abs result % 4096 ≡ 0 }
+{
+    number.wrapping_sub(low_part(number))
+}
+
+/// The register takes the high part of a number.
+fn load_high(code: &mut List<Instr>, register: u8, number: i32) -> Result<(), Memory>
+    requires { register < 32 }
+    ensures { OnOk result (code.new ≡ code.old ++ operation.lui register (pattern.high_part number) ∷ []) }
+{
+    code.push(lui(register, high_part(number)))?;
+    Ok(())
+}
+
+/// The register takes a number.
+pub(crate) fn load_number(
+    code: &mut List<Instr>,
+    register: u8,
+    number: i32,
+) -> Result<(), Memory>
+    requires { register < 32 }
+    ensures { OnOk result (code.new ≡ code.old ++ pattern.load_number register number) }
+{
+    if is_near(number) {
+        code.push(addi(register, 0, number))?;
+    } else {
+        load_high(code, register, number)?;
+        code.push(addi(register, register, low_part(number)))?;
+    }
+    Ok(())
+}
+
+/// The register takes the word at an offset from the frame pointer, in bytes.
+pub(crate) fn load_slot(code: &mut List<Instr>, register: u8, offset: i32) -> Result<(), Memory>
+    requires { register < 32 }
+    ensures { OnOk result (code.new ≡ code.old ++ pattern.load_slot register offset) }
+{
+    if is_near(offset) {
+        code.push(lw(register, FRAME, offset))?;
+    } else {
+        load_high(code, register, offset)?;
+        code.push(add(register, register, FRAME))?;
+        code.push(lw(register, register, low_part(offset)))?;
+    }
+    Ok(())
+}
+
+/// The word at an offset from the frame pointer, in bytes, becomes the register's.
+pub(crate) fn store_slot(code: &mut List<Instr>, register: u8, offset: i32) -> Result<(), Memory>
+    requires { register < 32 }
+    ensures { OnOk result (code.new ≡ code.old ++ pattern.store_slot register offset) }
+{
+    if is_near(offset) {
+        code.push(sw(register, FRAME, offset))?;
+    } else {
+        load_high(code, 7, offset)?;
+        code.push(add(7, 7, FRAME))?;
+        code.push(sw(register, 7, low_part(offset)))?;
+    }
+    Ok(())
+}
+
+/// A service of the environment.
+pub(crate) fn service(code: &mut List<Instr>, number: i32) -> Result<(), Memory>
+    requires { IsSigned 12 number }
+    ensures { OnOk result (code.new ≡ code.old ++ pattern.service number) }
+{
+    code.push(addi(31, 0, number))?;
+    code.push(ecall())?;
+    Ok(())
+}
+
+/// One tick is taken, or the run ends as spent where none is left.
+fn tick(code: &mut List<Instr>) -> Result<(), Memory>
+    ensures { OnOk result (code.new ≡ code.old ++ pattern.tick) }
+{
+    code.push(bne(4, 0, 12))?;
+    service(code, 6)?;
+    code.push(addi(4, 4, -1))?;
+    Ok(())
+}
+
+/// The account is tested for so many bytes, and they are taken from it.
+fn take_account(code: &mut List<Instr>, need: u32) -> Result<(), Memory>
+    requires { need < 2 ^ 31 }
+    ensures { OnOk result (code.new ≡ code.old ++ pattern.take_account need) }
+{
+    load_number(code, 7, need as i32)?;
+    code.push(bgeu(3, 7, 12))?;
+    service(code, 9)?;
+    code.push(sub(3, 3, 7))?;
+    Ok(())
+}
+
+/// A frame of so many bytes below the stack pointer, with the saved words.
+fn make_frame(code: &mut List<Instr>, bytes: u32) -> Result<(), Memory>
+    requires { bytes < 2 ^ 31 }
+    ensures { OnOk result (code.new ≡ code.old ++ pattern.make_frame bytes) }
+{
+    load_number(code, 7, bytes as i32)?;
+    code.push(sub(2, 2, 7))?;
+    code.push(sw(0, 2, 0))?;
+    code.push(add(7, 2, 7))?;
+    code.push(sw(1, 7, -4))?;
+    code.push(sw(8, 7, -8))?;
+    code.push(addi(8, 7, 0))?;
+    Ok(())
+}
+
+/// The code before a function's body, whose frame has so many bytes and takes `need` of the account.
+pub(crate) fn entry(code: &mut List<Instr>, bytes: u32, need: u32) -> Result<(), Memory>
+    requires frame { bytes < 2 ^ 31 }
+    requires account { need < 2 ^ 31 }
+    ensures { OnOk result (code.new ≡ code.old ++ pattern.entry bytes need) }
+{
+    tick(code)?;
+    take_account(code, need)?;
+    make_frame(code, bytes)?;
+    Ok(())
+}
+
+/// The code after a function's body, which gives `need` back to the account.
+pub(crate) fn leave(code: &mut List<Instr>, need: u32) -> Result<(), Memory>
+    requires { need < 2 ^ 31 }
+    ensures { OnOk result (code.new ≡ code.old ++ pattern.leave need) }
+{
+    load_number(code, 7, need as i32)?;
+    code.push(add(3, 3, 7))?;
+    code.push(addi(10, 5, 0))?;
+    code.push(lw(1, 8, -4))?;
+    code.push(addi(2, 8, 0))?;
+    code.push(lw(8, 8, -8))?;
+    code.push(jalr(0, 1, 0))?;
+    Ok(())
+}

@@ -1,0 +1,8 @@
+-- The definitions that the contracts cite.
+pub mod Alu
+pub mod Bits
+pub mod Effect
+pub mod Formats
+pub mod Operation
+pub mod Registers
+pub mod Words

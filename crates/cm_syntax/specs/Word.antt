@@ -1,0 +1,20 @@
+-- The words of the source language and its operators on them.
+-- A word is a whole number from -2^31 to 2^31 - 1, in two's complement.
+use Rattle.std.specs.Prelude.{ℤ, ◌+ℤ◌, ◌-ℤ◌, ◌*ℤ◌, Option, Some, FitsSigned}
+use Rattle.std.specs.Int.{w32, int_wrap}
+use Rattle.cm_syntax.specs.declared.expr.Op.{Op}
+use Rattle.cm_syntax.specs.declared.expr.Op.TheVariants.{Mul, Add, Sub}
+
+-- a whole number that is a word
+abbrev pub IsWord : ℤ → Type 0
+IsWord z = FitsSigned w32 z
+
+-- a whole number brought back into the range of a word, modulo 2^32
+abbrev pub wrapped : ℤ → ℤ
+wrapped z = int_wrap w32 z
+
+-- what an operator gives of its left and its right operand, and None where it has no value
+abbrev pub combined : Op → ℤ → ℤ → Option ℤ
+combined Mul left right = Some (wrapped (left *ℤ right))
+combined Add left right = Some (wrapped (left +ℤ right))
+combined Sub left right = Some (wrapped (left -ℤ right))
