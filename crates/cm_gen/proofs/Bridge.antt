@@ -1,6 +1,5 @@
 -- What an instruction does to registers in a list and words in places is what it does to the machine that they make.
-use Rattle.std.proofs.Common.{◌≡◌, ◌≢◌, ℕ, zero, suc, ◌+◌, ◌-◌, ◌*◌, ◌/◌, ◌%◌, ◌^◌, ◌<◌, ◌≤◌, List, [], ◌∷◌, length, Option, None, Some, refl, sym, ap, ◌∙◌, subst, arith, rules, inl, inr, eq-eqb}
-use Rattle.std.proofs.lemmas.Bool.{ne_eqb, eqb-true}
+use Rattle.std.proofs.Common.{◌≡◌, ◌≢◌, ℕ, ◌%◌, ◌<◌, List, length, Option, None, Some, refl, sym, ap, ◌∙◌, subst, arith, inl, inr, eq-eqb}
 use Rattle.std.proofs.lemmas.Bool.Decides.{eqb_tells}
 use Rattle.std.proofs.lemmas.List.{get_or-set_same, get_or-set_other}
 use Rattle.std.specs.Prelude.{Bool, true, false, ◌==◌, if◌then◌else◌, ◌⊎◌, slice_index, slice_set}
@@ -13,22 +12,22 @@ use Rattle.cm_isa.specs.declared.kinds.Format.TheVariants.{R, Shift, I, S, B, U,
 use Rattle.cm_isa.specs.Words.{Puts, SameWords, Writes}
 use Rattle.cm_isa.specs.Registers.{put}
 use Rattle.cm_isa.specs.declared.execution.Next.{Next}
-use Rattle.cm_isa.specs.Effect.{Outcome, goes_on, stops, action, action_at, outcome, done, follow, is_aligned, loaded, stored, load_from, store_to}
+use Rattle.cm_isa.specs.Effect.{Outcome, goes_on, stops, action_at, outcome, done, follow, is_aligned, loaded, stored, load_from, store_to}
 use Rattle.cm_isa.specs.declared.memory.Shown.{Shown}
 use Rattle.cm_isa.specs.declared.memory.Shown.TheVariants.{Place, Page, Outside}
 use Rattle.cm_isa.specs.declared.execution.Next.TheVariants.{At}
 use Rattle.cm_isa.specs.declared.execution.Size.{Size}
 use Rattle.cm_isa.specs.declared.execution.Action.{Action}
 use Rattle.cm_isa.specs.declared.execution.Action.TheVariants.{Sets, Passes, Goes, Links, Loads, Stores, Serves, Breaks}
-use Rattle.cm_gen.specs.Machine.{Machine, Mapped, after, acted, moved, with_register, with_word, word_address, word_shown, shown_words, machine_at, IsMap}
+use Rattle.cm_gen.specs.Machine.{Machine, after, acted, moved, with_register, with_word, word_address, word_shown, shown_words, machine_at, IsMap}
 use Rattle.cm_gen.proofs.Functions.{same_machine, same_registers}
 
 -- a word in a register of a list
 pub put_register : (rs : List ℕ) (rd v : ℕ) → rd < length rs → (q : ℕ) → slice_index (put rs rd v) q ≡ with_register (slice_index rs) rd v q
 put_register rs rd v within q = elim (rd == 0) as (λ z. slice_index (if z then rs else slice_set rs rd v) q ≡ (if z then slice_index rs q else if q == rd then v else slice_index rs q)) [
-    true ↦ refl
+  | true ↦ refl
   | false ↦ written (eqb_tells q rd)
-  ]
+]
   where
     written : ((q == rd) ≡ true × (q ≡ rd)) ⊎ ((q == rd) ≡ false × (q ≢ rd)) → slice_index (slice_set rs rd v) q ≡ (if q == rd then v else slice_index rs q)
     written (inl h) = rw h.0 (ap (slice_index (slice_set rs rd v)) h.1 ∙ get_or-set_same rs rd v 0 within)
@@ -99,7 +98,7 @@ words_put show old new a p x map aligned here puts = λ i b. at b i
 
     at : (b : ℕ) → shown_words show new b ≡ with_word (shown_words show old) a x b
     at b = elim (eqb_tells b a) [
-        inl h ↦
+      | inl h ↦
           let test : (a % 4 == 0) ≡ true = eq-eqb (a % 4) 0 aligned in
           let right : with_word (shown_words show old) a x b ≡ Some x = rw h.0 refl in
           let left : shown_words show new a ≡ Some x = rw (test, here) (ap Some puts.there) in
@@ -107,7 +106,7 @@ words_put show old new a p x map aligned here puts = λ i b. at b i
       | inr h ↦
           let right : with_word (shown_words show old) a x b ≡ shown_words show old b = rw h.0 refl in
           at_other b h.1 (eqb_tells (b % 4) 0) ∙ sym right
-      ]
+    ]
 
 words_kept : (old new : ℕ → ℕ) → SameWords old new → new ≡ old
 words_kept old new same = same
@@ -150,8 +149,8 @@ module _ (show : ℕ → Shown) (word_at : ℕ → ℕ) (rs : List ℕ) (pc : �
       let here : show a ≡ Place there.0 = map.whole a ∙ there.1 in
       let value : loaded size sign a (word_at there.0) ≡ loaded size sign a loaded_one.0 = ap (loaded size sign a) there.2 in
       rw (tested.0, here) (subst (Follows show word_at (goes_on (put rs rd (loaded size sign a (word_at there.0))) (follow pc)))
-        (ap (λ v. moved before (with_register before.registers rd v) (follow pc)) value ∙ loaded_one.2)
-        (sets_and_goes rd (loaded size sign a (word_at there.0)) (follow pc) within))
+      (ap (λ v. moved before (with_register before.registers rd v) (follow pc)) value ∙ loaded_one.2)
+      (sets_and_goes rd (loaded size sign a (word_at there.0)) (follow pc) within))
 
   stores_by : IsMap show → (size : Size) (a v rd : ℕ) (m : Machine) → acted (Stores size a v) rd before ≡ Some m → Follows show word_at (done show word_at (Stores size a v) rd rs pc) m
   stores_by map size a v rd m e =

@@ -1,8 +1,8 @@
 -- The code of an expression leaves the expression's value in register 5.
-use Rattle.std.proofs.Common.{◌≡◌, ◌≢◌, ℕ, zero, suc, ◌+◌, ◌-◌, ◌*◌, ◌%◌, ◌^◌, ◌<◌, ◌≤◌, max, List, [], ◌∷◌, ◌++◌, length, Option, None, Some, refl, sym, ap, ◌∙◌, subst, arith, rules, length-append, eq-eqb}
+use Rattle.std.proofs.Common.{◌≡◌, ◌≢◌, ℕ, ◌+◌, ◌-◌, ◌*◌, ◌%◌, ◌^◌, ◌<◌, ◌≤◌, List, [], ◌∷◌, ◌++◌, length, Option, None, Some, refl, sym, ap, ◌∙◌, subst, arith, rules, length-append, eq-eqb}
 use Rattle.std.proofs.lemmas.Bool.{ne_eqb}
 use Rattle.std.proofs.lemmas.Int.{ints}
-use Rattle.std.specs.Prelude.{Bool, true, false, ◌==◌, if◌then◌else◌, ℤ, pos, neg_ℤ, ◌+ℤ◌, FitsSigned, IsSome, option_and_then}
+use Rattle.std.specs.Prelude.{true, false, ◌==◌, if◌then◌else◌, ℤ, pos, neg_ℤ, ◌+ℤ◌, FitsSigned, IsSome, option_and_then}
 use Rattle.std.specs.Int.{w32, cast_unsigned}
 use Rattle.cm_isa.specs.Operation.{Operation}
 use Rattle.cm_isa.specs.Alu.{offset}
@@ -14,7 +14,7 @@ use Rattle.cm_syntax.specs.Shape.{Joined}
 use Rattle.cm_syntax.specs.Expr.{value_of, temporaries, IsClosed}
 use Rattle.cm_syntax.specs.Word.{combined}
 use Rattle.cm_gen.specs.Machine.{Machine, Code, ComesTo, StandsAt, with_word}
-use Rattle.cm_gen.specs.Code.{load_number, load_slot, store_slot, operate, evaluate, temporary}
+use Rattle.cm_gen.specs.Code.{load_slot, store_slot, operate, evaluate, temporary}
 use Rattle.cm_gen.proofs.WordLemmas as words
 use Rattle.cm_gen.proofs.Steps.{comes_on, stands_front, stands_back}
 use Rattle.cm_gen.proofs.PatternLaws.{Sets, Puts, load_number_runs, store_slot_runs, load_slot_runs, operate_runs}
@@ -134,18 +134,19 @@ module _ (code : Code) where
       → ComesTo code 1 t4 t5 → Sets 5 (cast_unsigned w32 v) 4 t4 t5
       → (whole : List Operation) → length whole ≡ length first + (length keep + (length second + (length bring + 1)))
       → ComesTo code (length whole) m t5 × Evaluated slots d limit v (4 * length whole) m t5
-  joined_parts op first keep second bring slots d limit f a b v m t1 t2 t3 t4 t5 frame room within c1 e1 c2 e2 c3 e3 c4 e4 c5 e5 whole size =
-      (subst (λ n. ComesTo code n m t5) (sym size)
+  joined_parts op first keep second bring slots d limit f a b v m t1 t2 t3 t4 t5 frame room within c1 e1 c2 e2 c3 e3 c4 e4 c5 e5 whole size = (
+    subst (λ n. ComesTo code n m t5) (sym size)
         (comes_on code (length first) (length keep + (length second + (length bring + 1))) m t1 t5 c1
-          (comes_on code (length keep) (length second + (length bring + 1)) t1 t2 t5 c2
-            (comes_on code (length second) (length bring + 1) t2 t3 t5 c3 (comes_on code (length bring) 1 t3 t4 t5 c4 c5)))),
-      record {
-        counter = omega (arith, size, e1.counter, e2.counter, e3.counter, e4.counter, e5.counter);
-        value = e5.value;
-        kept = λ q five six seven. e5.kept q five ∙ e4.kept q six ∙ e3.kept q five six seven ∙ e2.kept q seven ∙ e1.kept q five six seven;
-        words = λ x apart. same_word x apart;
-        mapped = λ x h. still x h;
-      })
+        (comes_on code (length keep) (length second + (length bring + 1)) t1 t2 t5 c2
+        (comes_on code (length second) (length bring + 1) t2 t3 t5 c3 (comes_on code (length bring) 1 t3 t4 t5 c4 c5)))),
+    record {
+      counter = omega (arith, size, e1.counter, e2.counter, e3.counter, e4.counter, e5.counter);
+      value = e5.value;
+      kept = λ q five six seven. e5.kept q five ∙ e4.kept q six ∙ e3.kept q five six seven ∙ e2.kept q seven ∙ e1.kept q five six seven;
+      words = λ x apart. same_word x apart;
+      mapped = λ x h. still x h;
+    },
+  )
     where
       at : ℕ
       at = temporary_address f slots d
@@ -156,7 +157,7 @@ module _ (code : Code) where
       same_word : (x : ℕ) → ((j : ℕ) → d ≤ j → j < limit → x ≢ temporary_address (m.registers 8) slots j) → t5.words x ≡ m.words x
       same_word x apart =
           let apart3 : (j : ℕ) → d + 1 ≤ j → j < limit → x ≢ temporary_address (t2.registers 8) slots j =
-            λ j low high e. apart j (omega (arith, low)) high (e ∙ ap (λ g. temporary_address g slots j) (frame2 ∙ sym frame)) in
+          λ j low high e. apart j (omega (arith, low)) high (e ∙ ap (λ g. temporary_address g slots j) (frame2 ∙ sym frame)) in
           let away : x ≢ at = λ e. apart d (omega arith) within (e ∙ ap (λ g. temporary_address g slots d) (sym frame)) in
           ap (λ w. w x) e5.words ∙ ap (λ w. w x) e4.words ∙ e3.words x apart3 ∙ ap (λ w. w x) e2.words ∙ with_word_other t1.words at (t1.registers 5) x away ∙ e1.words x apart
 
@@ -191,7 +192,7 @@ module _ (code : Code) where
       let size3 = length-append second (bring ++ operate op ∷ []) in
       let size4 = length-append bring (operate op ∷ []) in
       let size : length (first ++ (keep ++ (second ++ (bring ++ operate op ∷ [])))) ≡ length first + (length keep + (length second + (length bring + 1))) =
-        omega (arith, length-append first (keep ++ (second ++ (bring ++ operate op ∷ []))), size2, size3, size4) in
+      omega (arith, length-append first (keep ++ (second ++ (bring ++ operate op ∷ []))), size2, size3, size4) in
       let s1 = stands_front code m.counter first (keep ++ (second ++ (bring ++ operate op ∷ []))) stands in
       let r1 = stands_back code m.counter first (keep ++ (second ++ (bring ++ operate op ∷ []))) stands in
       let one = left m zero_is frame mapped (omega (arith, bound, size)) s1 in
@@ -227,10 +228,10 @@ module _ (code : Code) where
           let f2 : t2.registers 8 ≡ f = e2.kept 8 refl ∙ f1 in
           let zero2 : t2.registers 0 ≡ 0 = e2.kept 0 refl ∙ e1.kept 0 refl refl refl ∙ zero_is in
           let mapped2 : AreMapped t2 slots (d + 1) limit = λ j low high.
-            subst (λ (w : ℕ → Option ℕ). IsSome (w (temporary_address (t2.registers 8) slots j))) (sym e2.words)
-              (with_word_mapped t1.words at (t1.registers 5) (temporary_address (t2.registers 8) slots j)
-                (e1.mapped (temporary_address (t2.registers 8) slots j)
-                  (subst (λ g. IsSome (m.words (temporary_address g slots j))) (frame ∙ sym f2) (mapped j (omega (arith, low)) high)))) in
+          subst (λ (w : ℕ → Option ℕ). IsSome (w (temporary_address (t2.registers 8) slots j))) (sym e2.words)
+          (with_word_mapped t1.words at (t1.registers 5) (temporary_address (t2.registers 8) slots j)
+          (e1.mapped (temporary_address (t2.registers 8) slots j)
+          (subst (λ g. IsSome (m.words (temporary_address g slots j))) (frame ∙ sym f2) (mapped j (omega (arith, low)) high)))) in
           let rights = right t2 zero2 f2 mapped2 (omega (arith, bound, size, e1.counter, e2.counter)) s3 in
           let t3 = rights.0 in
           let e3 = rights.2 in
@@ -246,7 +247,7 @@ module _ (code : Code) where
               let r4 = stands_back code t3.counter bring (operate op ∷ []) stands3 in
               let f3 : t3.registers 8 ≡ f = e3.kept 8 refl refl refl ∙ f2 in
               let apart : (j : ℕ) → d + 1 ≤ j → j < limit → at ≢ temporary_address (t2.registers 8) slots j =
-                λ j low high e. temporary_apart f slots limit d j room within high (omega (arith, low)) (e ∙ ap (λ g. temporary_address g slots j) f2) in
+              λ j low high e. temporary_apart f slots limit d j room within high (omega (arith, low)) (e ∙ ap (λ g. temporary_address g slots j) f2) in
               let here : t3.words at ≡ Some (t1.registers 5) = e3.words at apart ∙ ap (λ w. w at) e2.words ∙ with_word_same t1.words at (t1.registers 5) in
               let brings = brought t3 (t1.registers 5) f3 here (omega (arith, bound, size, e1.counter, e2.counter, e3.counter)) s4 in
               let t4 = brings.0 in
@@ -273,14 +274,17 @@ module _ (code : Code) where
       → Gives (evaluate slots e d) slots d limit f v
   evaluate_runs slots (Number n) d limit f v closed means enough room = λ m zero_is frame mapped bound stands.
       let same : n ≡ v = same_value n v means in
-      let set = load_number_runs code 5 n m refl zero_is closed.0 (omega arith) stands in
-      (set.0, set.1, record {
-        counter = set.2.counter;
-        value = set.2.value ∙ ap (cast_unsigned w32) same;
-        kept = λ q five six seven. set.2.kept q five;
-        words = λ a apart. ap (λ w. w a) set.2.words;
-        mapped = λ a h. subst (λ (w : ℕ → Option ℕ). IsSome (w a)) (sym set.2.words) h;
-      })
+      let set = load_number_runs code 5 n m refl zero_is closed.0 (omega arith) stands in (
+        set.0,
+        set.1,
+        record {
+          counter = set.2.counter;
+          value = set.2.value ∙ ap (cast_unsigned w32) same;
+          kept = λ q five six seven. set.2.kept q five;
+          words = λ a apart. ap (λ w. w a) set.2.words;
+          mapped = λ a h. subst (λ (w : ℕ → Option ℕ). IsSome (w a)) (sym set.2.words) h;
+        },
+      )
   evaluate_runs slots (Scalar mark) d limit f v closed means enough room = absurd closed
   evaluate_runs slots (Joined op left right) d limit f v closed means enough room =
       let parts = both_some (combined op) (value_of left) (value_of right) v means in

@@ -1,18 +1,18 @@
 -- What the code before and after a function's body does.
-use Rattle.std.proofs.Common.{◌≡◌, ◌≢◌, ℕ, zero, suc, ◌+◌, ◌-◌, ◌*◌, ◌%◌, ◌^◌, ◌<◌, ◌≤◌, List, [], ◌∷◌, ◌++◌, length, Option, None, Some, refl, sym, ap, ◌∙◌, subst, arith, rules, inl, inr, length-append, eq-eqb}
+use Rattle.std.proofs.Common.{◌≡◌, ◌≢◌, ℕ, ◌+◌, ◌-◌, ◌*◌, ◌%◌, ◌^◌, ◌<◌, ◌≤◌, [], ◌∷◌, length, Option, Some, refl, sym, ap, ◌∙◌, subst, arith, inl, inr}
 use Rattle.std.proofs.lemmas.Bool.{ne_eqb, le-ltb}
 use Rattle.std.proofs.lemmas.Int.{ints}
 use Rattle.std.proofs.lemmas.Bool.Decides.{eqb_tells}
-use Rattle.std.specs.Prelude.{Bool, true, false, not, ◌==◌, nat_lt, if◌then◌else◌, ℤ, pos, negsuc, ◌+ℤ◌, ◌-ℤ◌, FitsSigned, IsSome}
+use Rattle.std.specs.Prelude.{true, false, ◌==◌, nat_lt, ℤ, pos, negsuc, ◌+ℤ◌, ◌-ℤ◌, FitsSigned, IsSome}
 use Rattle.std.specs.Int.{w32, cast_unsigned}
 use Rattle.cm_isa.specs.Operation.{Operation}
 use Rattle.cm_isa.specs.Alu.{int, word, offset}
 use Rattle.cm_isa.specs.Effect.{follow}
 use Rattle.cm_gen.specs.Machine.{Machine, Code, ComesTo, StandsAt, after, moved, with_register, with_word}
-use Rattle.cm_gen.specs.Operations.{addi, add, sub, lw, sw, jal, jalr, bne, bgeu, ecall}
-use Rattle.cm_gen.specs.Code.{load_number, service, tick}
+use Rattle.cm_gen.specs.Operations.{addi, add, sub, lw, sw, jalr, bne, bgeu}
+use Rattle.cm_gen.specs.Code.{load_number, tick}
 use Rattle.cm_gen.proofs.WordLemmas as words
-use Rattle.cm_gen.proofs.Steps.{comes_by_one, comes_on, stands_front, stands_back, follow_is, load_word, store_word}
+use Rattle.cm_gen.proofs.Steps.{comes_by_one, comes_on, follow_is, load_word, store_word}
 use Rattle.cm_gen.proofs.PatternLaws.{Sets, load_number_runs}
 use Rattle.cm_gen.proofs.Expressions.{some_of, with_word_mapped}
 
@@ -30,9 +30,9 @@ sets_is r v bytes m t nonzero does = same_machine t _ (same_registers t.register
   where
     each : (q : ℕ) → t.registers q ≡ with_register m.registers r v q
     each q = elim (eqb_tells q r) [
-        inl same ↦ let there : (q == r) ≡ true = same.0 in rw (nonzero, there) (ap t.registers same.1 ∙ does.value)
+      | inl same ↦ let there : (q == r) ≡ true = same.0 in rw (nonzero, there) (ap t.registers same.1 ∙ does.value)
       | inr other ↦ let away : (q == r) ≡ false = other.0 in rw (nonzero, away) (does.kept q away)
-      ]
+    ]
 
 -- ---- single instructions
 
@@ -89,12 +89,12 @@ module _ (code : Code) where
       → ComesTo code 2 m (moved m (with_register m.registers 4 (m.registers 4 - 1)) (p + 16))
   tick_runs p m zero_is some fits aligned here room stands =
       let first = comes_by_one code (bne 4 0 (pos 12)) m (moved m m.registers (m.counter + 12)) (subst (λ n. code n (bne 4 0 (pos 12))) (sym here) stands.0)
-          (bne_taken m zero_is some (omega (arith, here)) (omega (arith, here))) in
+      (bne_taken m zero_is some (omega (arith, here)) (omega (arith, here))) in
       let less : word (int (m.registers 4) +ℤ int (cast_unsigned w32 (negsuc 0))) ≡ m.registers 4 - 1 =
-        words.word-add (m.registers 4) (2 ^ 32 - 1) fits (omega arith) ∙ omega (arith, some) in
+      words.word-add (m.registers 4) (2 ^ 32 - 1) fits (omega arith) ∙ omega (arith, some) in
       let place : p + 4 + 4 + 4 ≡ p + 12 = omega arith in
       let second = set_at (addi 4 4 (negsuc 0)) 4 (m.registers 4 - 1) (p + 12) (moved m m.registers (m.counter + 12)) (ap (λ c. c + 12) here) (omega arith)
-          (subst (λ n. code n (addi 4 4 (negsuc 0))) place stands.1.1.1.0) (ap (λ v. Some (moved m (with_register m.registers 4 v) (follow (m.counter + 12)))) less) in
+      (subst (λ n. code n (addi 4 4 (negsuc 0))) place stands.1.1.1.0) (ap (λ v. Some (moved m (with_register m.registers 4 v) (follow (m.counter + 12)))) less) in
       let sum : p + 12 + 4 ≡ p + 16 = omega arith in
       comes_on code 1 1 m _ _ first (subst (λ c. ComesTo code 1 (moved m m.registers (m.counter + 12)) (moved m (with_register m.registers 4 (m.registers 4 - 1)) c)) sum second)
 
@@ -104,7 +104,7 @@ module _ (code : Code) where
       → StandsAt code p (load_number 7 (pos q)) → code (p + 4 * length (load_number 7 (pos q))) (bgeu 3 7 (pos 12))
       → code (p + 4 * length (load_number 7 (pos q)) + 12) (sub 3 3 7)
       → ComesTo code (length (load_number 7 (pos q)) + 2) m
-          (moved m (with_register (with_register m.registers 7 q) 3 (m.registers 3 - q)) (p + 4 * length (load_number 7 (pos q)) + 16))
+      (moved m (with_register (with_register m.registers 7 q) 3 (m.registers 3 - q)) (p + 4 * length (load_number 7 (pos q)) + 16))
   account_runs q p m zero_is fits enough small aligned here room stands test last =
       account_by (length (load_number 7 (pos q))) (number_at 7 q p m refl zero_is small here (omega arith) stands) room test last
     where
@@ -117,10 +117,10 @@ module _ (code : Code) where
           let second = comes_by_one code (bgeu 3 7 (pos 12)) n o test (bgeu_taken n enough (omega arith) (omega arith)) in
           let value : word (int (m.registers 3) -ℤ int q) ≡ m.registers 3 - q = words.word-sub (m.registers 3) q fits (omega arith) ∙ omega arith in
           let third = set_at (sub 3 3 7) 3 (m.registers 3 - q) (p + 4 * size + 12) o refl (omega arith) last
-              (ap (λ v. Some (moved o (with_register o.registers 3 v) (follow o.counter))) value) in
+          (ap (λ v. Some (moved o (with_register o.registers 3 v) (follow o.counter))) value) in
           let sum : p + 4 * size + 12 + 4 ≡ p + 4 * size + 16 = omega arith in
           comes_on code size 2 m n _ loaded (comes_on code 1 1 n o _ second
-            (subst (λ c. ComesTo code 1 o (moved m (with_register (with_register m.registers 7 q) 3 (m.registers 3 - q)) c)) sum third))
+          (subst (λ c. ComesTo code 1 o (moved m (with_register (with_register m.registers 7 q) 3 (m.registers 3 - q)) c)) sum third))
 
 -- the addresses that a call's frame and saved words have
 pub record IsFrameBelow (b sp : ℕ) (w : ℕ → Option ℕ) : Type 0 where

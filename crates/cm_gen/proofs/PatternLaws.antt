@@ -1,12 +1,12 @@
 -- What each pattern of the code does: the machine comes from the pattern's place to the place after it.
-use Rattle.std.proofs.Common.{◌≡◌, ◌≢◌, ℕ, zero, suc, ◌+◌, ◌-◌, ◌*◌, ◌%◌, ◌^◌, ◌<◌, ◌≤◌, List, [], ◌∷◌, ◌++◌, length, Option, None, Some, refl, sym, ap, ◌∙◌, subst, arith}
-use Rattle.std.specs.Prelude.{Bool, true, false, ◌==◌, if◌then◌else◌, ℤ, pos, ◌+ℤ◌, ◌-ℤ◌, ◌*ℤ◌, FitsSigned, IsSome}
+use Rattle.std.proofs.Common.{◌≡◌, ℕ, ◌+◌, ◌*◌, ◌%◌, ◌^◌, ◌<◌, [], ◌∷◌, length, Option, Some, refl, sym, ap, ◌∙◌, subst, arith}
+use Rattle.std.specs.Prelude.{Bool, true, false, ◌==◌, if◌then◌else◌, ℤ, ◌+ℤ◌, ◌-ℤ◌, ◌*ℤ◌, FitsSigned}
 use Rattle.std.specs.Int.{w32, cast_unsigned}
 use Rattle.cm_isa.specs.Operation.{Operation}
 use Rattle.cm_isa.specs.Alu.{int, word, offset}
 use Rattle.cm_isa.specs.Effect.{follow}
-use Rattle.cm_gen.specs.Machine.{Machine, Code, StepsTo, ComesTo, StandsAt, after, moved, with_register, with_word}
-use Rattle.cm_gen.specs.Operations.{lui, addi, add, sub, mul, lw, sw}
+use Rattle.cm_gen.specs.Machine.{Machine, Code, ComesTo, StandsAt, after, moved, with_register, with_word}
+use Rattle.cm_gen.specs.Operations.{lui, addi, add, lw, sw}
 use Rattle.cm_syntax.specs.declared.expr.Op.{Op}
 use Rattle.cm_syntax.specs.declared.expr.Op.TheVariants.{Mul, Add, Sub}
 use Rattle.cm_syntax.specs.Word.{wrapped, combined}
@@ -36,13 +36,16 @@ module _ (code : Code) where
       → after i m ≡ Some (moved m (with_register m.registers r v) (follow m.counter))
       → (t : Machine) × ComesTo code 1 m t × Sets r v 4 m t
   sets_by_one i r v m nonzero room stands effect =
-      let t = moved m (with_register m.registers r v) (follow m.counter) in
-      (t, comes_by_one code i m t stands effect, record {
-        counter = follow_is m.counter room;
-        value = with_register_same m.registers r v nonzero;
-        kept = λ q other. with_register_other m.registers r v q other;
-        words = refl;
-      })
+      let t = moved m (with_register m.registers r v) (follow m.counter) in (
+        t,
+        comes_by_one code i m t stands effect,
+        record {
+          counter = follow_is m.counter room;
+          value = with_register_same m.registers r v nonzero;
+          kept = λ q other. with_register_other m.registers r v q other;
+          words = refl;
+        },
+      )
 
   -- two such instructions
   pub sets_by_two : (i j : Operation) (r u v : ℕ) (m : Machine) → (r == 0) ≡ false → m.counter + 8 < 2 ^ 32 → code m.counter i → code (m.counter + 4) j
@@ -54,29 +57,32 @@ module _ (code : Code) where
       let t = first.0 in
       let does = first.2 in
       let room' : t.counter + 4 < 2 ^ 32 = omega (arith, does.counter) in
-      let second = sets_by_one j r v t nonzero room' (subst (λ p. code p j) (sym does.counter) next) (then_effect t does) in
-      (second.0, comes_on code 1 1 m t second.0 first.1 second.1, record {
-        counter = omega (arith, second.2.counter, does.counter);
-        value = second.2.value;
-        kept = λ q other. second.2.kept q other ∙ does.kept q other;
-        words = second.2.words ∙ does.words;
-      })
+      let second = sets_by_one j r v t nonzero room' (subst (λ p. code p j) (sym does.counter) next) (then_effect t does) in (
+        second.0,
+        comes_on code 1 1 m t second.0 first.1 second.1,
+        record {
+          counter = omega (arith, second.2.counter, does.counter);
+          value = second.2.value;
+          kept = λ q other. second.2.kept q other ∙ does.kept q other;
+          words = second.2.words ∙ does.words;
+        },
+      )
 
   -- a number in a register
   load_number_by : (near : Bool) (r : ℕ) (n : ℤ) (m : Machine) → (r == 0) ≡ false → m.registers 0 ≡ 0 → FitsSigned w32 n → m.counter + 8 < 2 ^ 32
       → StandsAt code m.counter (if near then addi r 0 n ∷ [] else lui r (high_part n) ∷ addi r r (low_part n) ∷ [])
       → let size = length (if near then addi r 0 n ∷ [] else lui r (high_part n) ∷ addi r r (low_part n) ∷ []) in
-        (t : Machine) × ComesTo code size m t × Sets r (cast_unsigned w32 n) (4 * size) m t
+      (t : Machine) × ComesTo code size m t × Sets r (cast_unsigned w32 n) (4 * size) m t
   load_number_by true r n m nonzero zero_is fits room stands =
       let bits = cast_unsigned w32 n in
       let value : word (int (m.registers 0) +ℤ int bits) ≡ bits =
-        rw zero_is (words.word-add 0 bits (omega arith) (words.cast_unsigned_below n fits) ∙ (let below = words.cast_unsigned_below n fits in omega arith)) in
+      rw zero_is (words.word-add 0 bits (omega arith) (words.cast_unsigned_below n fits) ∙ (let below = words.cast_unsigned_below n fits in omega arith)) in
       sets_by_one (addi r 0 n) r bits m nonzero (omega arith) stands.0 (ap (λ v. Some (moved m (with_register m.registers r v) (follow m.counter))) value)
   load_number_by false r n m nonzero zero_is fits room stands =
       let upper = cast_unsigned w32 (high_part n) in
       let lower = cast_unsigned w32 (low_part n) in
       let value : word (int upper +ℤ int lower) ≡ cast_unsigned w32 n =
-        rw (words.int-cast_unsigned (high_part n) (words.wrapped_fits _), words.int-cast_unsigned (low_part n) (words.low_part_fits n)) (words.word-parts n ∙ words.word-fits n fits) in
+      rw (words.int-cast_unsigned (high_part n) (words.wrapped_fits _), words.int-cast_unsigned (low_part n) (words.low_part_fits n)) (words.word-parts n ∙ words.word-fits n fits) in
       sets_by_two (lui r (high_part n)) (addi r r (low_part n)) r upper (cast_unsigned w32 n) m nonzero room stands.0 stands.1.0 refl
       (λ t does. ap (λ v. Some (moved t (with_register t.registers r v) (follow t.counter))) (ap (λ u. word (int u +ℤ int lower)) does.value ∙ value))
 
@@ -93,12 +99,12 @@ module _ (code : Code) where
   far_base : (r : ℕ) (o : ℤ) (m : Machine) → (r == 0) ≡ false → (8 == r) ≡ false → m.registers 8 < 2 ^ 32 → m.counter + 8 < 2 ^ 32
       → code m.counter (lui r (high_part o)) → code (m.counter + 4) (add r r 8)
       → (t : Machine) × ComesTo code 2 m t × Sets r (word (int (cast_unsigned w32 (high_part o)) +ℤ int (m.registers 8))) 8 m t
-        × (offset (t.registers r) (low_part o) ≡ offset (m.registers 8) o)
+      × (offset (t.registers r) (low_part o) ≡ offset (m.registers 8) o)
   far_base r o m nonzero other frame room stands next =
       let upper = cast_unsigned w32 (high_part o) in
       let base = word (int upper +ℤ int (m.registers 8)) in
       let two = sets_by_two (lui r (high_part o)) (add r r 8) r upper base m nonzero room stands next refl
-          (λ t does. ap (λ v. Some (moved t (with_register t.registers r v) (follow t.counter))) (ap (λ u. word (int u +ℤ int (t.registers 8))) does.value ∙ ap (λ u. word (int upper +ℤ int u)) (does.kept 8 other))) in
+      (λ t does. ap (λ v. Some (moved t (with_register t.registers r v) (follow t.counter))) (ap (λ u. word (int u +ℤ int (t.registers 8))) does.value ∙ ap (λ u. word (int upper +ℤ int u)) (does.kept 8 other))) in
       (two.0, two.1, two.2, ap (λ u. offset u (low_part o)) two.2.value ∙ words.far_offset o (m.registers 8) frame)
 
   -- the word of a register at an offset from the frame pointer
@@ -106,16 +112,19 @@ module _ (code : Code) where
       → offset (m.registers 8) o ≡ a → a % 4 ≡ 0 → m.words a ≡ Some old → m.counter + 12 < 2 ^ 32
       → StandsAt code m.counter (if near then sw r 8 o ∷ [] else lui 7 (high_part o) ∷ add 7 7 8 ∷ sw r 7 (low_part o) ∷ [])
       → let size = length (if near then sw r 8 o ∷ [] else lui 7 (high_part o) ∷ add 7 7 8 ∷ sw r 7 (low_part o) ∷ []) in
-        (t : Machine) × ComesTo code size m t × Puts a (m.registers r) (4 * size) m t
+      (t : Machine) × ComesTo code size m t × Puts a (m.registers r) (4 * size) m t
   store_slot_by true r o a old m other frame place aligned there room stands =
       let v = m.registers r in
       let t : Machine = record { registers = m.registers; counter = follow m.counter; words = with_word m.words a v } in
-      let effect : after (sw r 8 o) m ≡ Some t = rw place (store_word 0 a v old m aligned there) in
-      (t, comes_by_one code (sw r 8 o) m t stands.0 effect, record {
-        counter = follow_is m.counter (omega arith);
-        kept = λ q h. refl;
-        words = refl;
-      })
+      let effect : after (sw r 8 o) m ≡ Some t = rw place (store_word 0 a v old m aligned there) in (
+        t,
+        comes_by_one code (sw r 8 o) m t stands.0 effect,
+        record {
+          counter = follow_is m.counter (omega arith);
+          kept = λ q h. refl;
+          words = refl;
+        },
+      )
   store_slot_by false r o a old m other frame place aligned there room stands =
       let upper = cast_unsigned w32 (high_part o) in
       let base = word (int upper +ℤ int (m.registers 8)) in
@@ -128,12 +137,15 @@ module _ (code : Code) where
       let same : s.registers r ≡ v = does.kept r other in
       let here : s.words a ≡ Some old = ap (λ w. w a) does.words ∙ there in
       let effect : after (sw r 7 (low_part o)) s ≡ Some t = rw (at, same) (store_word 0 a v old s aligned here) in
-      let stands' = subst (λ p. code p (sw r 7 (low_part o))) (sym does.counter) (moved_place (sw r 7 (low_part o)) m.counter stands.1.1.0) in
-      (t, comes_on code 2 1 m s t two.1 (comes_by_one code (sw r 7 (low_part o)) s t stands' effect), record {
-        counter = omega (arith, follow_is s.counter (omega (arith, does.counter)), does.counter);
-        kept = λ q h. does.kept q h;
-        words = ap (λ w. with_word w a v) does.words;
-      })
+      let stands' = subst (λ p. code p (sw r 7 (low_part o))) (sym does.counter) (moved_place (sw r 7 (low_part o)) m.counter stands.1.1.0) in (
+        t,
+        comes_on code 2 1 m s t two.1 (comes_by_one code (sw r 7 (low_part o)) s t stands' effect),
+        record {
+          counter = omega (arith, follow_is s.counter (omega (arith, does.counter)), does.counter);
+          kept = λ q h. does.kept q h;
+          words = ap (λ w. with_word w a v) does.words;
+        },
+      )
 
   pub store_slot_runs : (r : ℕ) (o : ℤ) (a old : ℕ) (m : Machine) → (r == 7) ≡ false → m.registers 8 < 2 ^ 32
       → offset (m.registers 8) o ≡ a → a % 4 ≡ 0 → m.words a ≡ Some old → m.counter + 12 < 2 ^ 32
@@ -146,7 +158,7 @@ module _ (code : Code) where
       → offset (m.registers 8) o ≡ a → a % 4 ≡ 0 → m.words a ≡ Some v → m.counter + 12 < 2 ^ 32
       → StandsAt code m.counter (if near then lw r 8 o ∷ [] else lui r (high_part o) ∷ add r r 8 ∷ lw r r (low_part o) ∷ [])
       → let size = length (if near then lw r 8 o ∷ [] else lui r (high_part o) ∷ add r r 8 ∷ lw r r (low_part o) ∷ []) in
-        (t : Machine) × ComesTo code size m t × Sets r v (4 * size) m t
+      (t : Machine) × ComesTo code size m t × Sets r v (4 * size) m t
   load_slot_by true r o a v m nonzero other frame place aligned there room stands =
       sets_by_one (lw r 8 o) r v m nonzero (omega arith) stands.0 (rw place (load_word r a v m aligned there))
   load_slot_by false r o a v m nonzero other frame place aligned there room stands =
@@ -157,13 +169,16 @@ module _ (code : Code) where
       let here : s.words a ≡ Some v = ap (λ w. w a) does.words ∙ there in
       let stands' = subst (λ p. code p (lw r r (low_part o))) (sym does.counter) (moved_place (lw r r (low_part o)) m.counter stands.1.1.0) in
       let room' : s.counter + 4 < 2 ^ 32 = omega (arith, does.counter) in
-      let last = sets_by_one (lw r r (low_part o)) r v s nonzero room' stands' (rw at (load_word r a v s aligned here)) in
-      (last.0, comes_on code 2 1 m s last.0 two.1 last.1, record {
-        counter = omega (arith, last.2.counter, does.counter);
-        value = last.2.value;
-        kept = λ q h. last.2.kept q h ∙ does.kept q h;
-        words = last.2.words ∙ does.words;
-      })
+      let last = sets_by_one (lw r r (low_part o)) r v s nonzero room' stands' (rw at (load_word r a v s aligned here)) in (
+        last.0,
+        comes_on code 2 1 m s last.0 two.1 last.1,
+        record {
+          counter = omega (arith, last.2.counter, does.counter);
+          value = last.2.value;
+          kept = λ q h. last.2.kept q h ∙ does.kept q h;
+          words = last.2.words ∙ does.words;
+        },
+      )
 
   pub load_slot_runs : (r : ℕ) (o : ℤ) (a v : ℕ) (m : Machine) → (r == 0) ≡ false → (8 == r) ≡ false → m.registers 8 < 2 ^ 32
       → offset (m.registers 8) o ≡ a → a % 4 ≡ 0 → m.words a ≡ Some v → m.counter + 12 < 2 ^ 32

@@ -1,7 +1,6 @@
 -- The image of a program of one expression runs to the end service with the expression's value.
-use Rattle.std.proofs.Common.{◌≡◌, ◌≢◌, ℕ, zero, suc, ◌+◌, ◌-◌, ◌*◌, ◌/◌, ◌%◌, ◌^◌, ◌<◌, ◌≤◌, max, List, [], ◌∷◌, ◌++◌, length, Option, None, Some, refl, sym, ap, ◌∙◌, subst, arith, rules, length-append}
-use Rattle.std.proofs.lemmas.Int.{ints}
-use Rattle.std.specs.Prelude.{Bool, true, false, ◌==◌, if◌then◌else◌, ℤ, pos, negsuc, ◌+ℤ◌, FitsSigned, IsSome, option_and_then}
+use Rattle.std.proofs.Common.{◌≡◌, ℕ, ◌+◌, ◌-◌, ◌*◌, ◌%◌, ◌^◌, ◌<◌, ◌≤◌, List, [], ◌∷◌, ◌++◌, length, Option, Some, refl, sym, ap, ◌∙◌, subst, arith, length-append}
+use Rattle.std.specs.Prelude.{true, false, if◌then◌else◌, ℤ, pos, negsuc, ◌+ℤ◌, FitsSigned, IsSome, option_and_then}
 use Rattle.std.specs.Int.{w32, cast_unsigned}
 use Rattle.cm_isa.specs.Operation.{Operation}
 use Rattle.cm_isa.specs.Alu.{int, word, offset}
@@ -13,14 +12,14 @@ use Rattle.cm_syntax.specs.declared.expr.Expr.TheVariants.{Number, Scalar}
 use Rattle.cm_syntax.specs.Shape.{Joined}
 use Rattle.cm_syntax.specs.Expr.{value_of, temporaries, operator_count, IsClosed}
 use Rattle.cm_syntax.specs.Word.{combined}
-use Rattle.cm_gen.specs.Machine.{Machine, Code, ComesTo, StandsAt, after, moved, with_register, with_word}
-use Rattle.cm_gen.specs.Operations.{lui, addi, add, sub, lw, sw, jal, jalr, bne, bgeu, ecall}
-use Rattle.cm_gen.specs.Code.{is_near, high_part, low_part, load_number, load_slot, store_slot, operate, evaluate, temporary, service, tick, take_account, make_frame, entry, leave, frame_words, frame_bytes, main_code, first_code}
-use Rattle.cm_gen.specs.Run.{stack_top, table_start, start_registers, IsStart}
+use Rattle.cm_gen.specs.Machine.{Machine, Code, ComesTo, StandsAt, moved, with_register, with_word}
+use Rattle.cm_gen.specs.Operations.{lui, addi, add, sub, lw, sw, jal, jalr, bgeu, ecall}
+use Rattle.cm_gen.specs.Code.{is_near, high_part, low_part, load_number, load_slot, store_slot, operate, evaluate, temporary, service, tick, take_account, make_frame, entry, leave, frame_bytes, first_code}
+use Rattle.cm_gen.specs.Run.{stack_top, start_registers}
 use Rattle.cm_gen.proofs.WordLemmas as words
 use Rattle.cm_gen.proofs.Steps.{comes_by_one, comes_on, stands_front, stands_back}
-use Rattle.cm_gen.proofs.Expressions.{some_of, with_word_mapped, value_fits, HasRoom, AreMapped, temporary_address, Evaluated, evaluate_runs}
-use Rattle.cm_gen.proofs.Functions.{same_machine, same_registers, IsFrameBelow, framed_registers, framed_words, left_registers, set_at, number_at, tick_runs, account_runs, frame_by, leave_by}
+use Rattle.cm_gen.proofs.Expressions.{with_word_mapped, value_fits, HasRoom, AreMapped, temporary_address, Evaluated, evaluate_runs}
+use Rattle.cm_gen.proofs.Functions.{IsFrameBelow, framed_registers, framed_words, left_registers, set_at, number_at, tick_runs, account_runs, frame_by, leave_by}
 
 -- ---- sizes
 
@@ -42,8 +41,17 @@ short_code slots (Joined op left right) d =
     let keep = store_slot 5 (temporary slots d) in
     let second = evaluate slots right (d + 1) in
     let bring = load_slot 6 (temporary slots d) in
-    omega (arith, length-append first (keep ++ (second ++ (bring ++ operate op ∷ []))), length-append keep (second ++ (bring ++ operate op ∷ [])), length-append second (bring ++ operate op ∷ []), length-append bring (operate op ∷ []),
-      short_code slots left d, short_code slots right (d + 1), short_load 6 (temporary slots d), short_store 5 (temporary slots d))
+    omega (
+      arith,
+      length-append first (keep ++ (second ++ (bring ++ operate op ∷ []))),
+      length-append keep (second ++ (bring ++ operate op ∷ [])),
+      length-append second (bring ++ operate op ∷ []),
+      length-append bring (operate op ∷ []),
+      short_code slots left d,
+      short_code slots right (d + 1),
+      short_load 6 (temporary slots d),
+      short_store 5 (temporary slots d),
+    )
 
 -- an expression needs no more temporaries than it has operators
 pub few_temporaries : (e : Expr ℕ) (d : ℕ) → temporaries e d ≤ d + operator_count e
@@ -84,13 +92,13 @@ module _ (code : Code) where
   entry_runs : (account ticks b : ℕ) (w : ℕ → Option ℕ) → IsFrameBelow b stack_top w → b ≤ account → account ≤ stack_top → 0 < ticks → ticks < 2 ^ 32
       → code 8 (jal 0 (pos 4)) → StandsAt code 12 (entry b b)
       → let size = length (load_number 7 (pos b)) in
-        ComesTo code (1 + (2 + ((size + 2) + (size + 6)))) (record { registers = start_registers account ticks; counter = 8; words = w })
-          (entered account ticks b (68 + 8 * size) w)
+      ComesTo code (1 + (2 + ((size + 2) + (size + 6)))) (record { registers = start_registers account ticks; counter = 8; words = w })
+      (entered account ticks b (68 + 8 * size) w)
   entry_runs account ticks b w frame enough most some fits table stands =
       subst (λ c. ComesTo code (1 + (2 + ((length number + 2) + (length number + 6)))) m0 (entered account ticks b c w)) last_place
       (comes_on code 1 (2 + ((length number + 2) + (length number + 6))) m0 m1 _ called
-        (comes_on code 2 ((length number + 2) + (length number + 6)) m1 m2 _ ticked
-          (comes_on code (length number + 2) (length number + 6) m2 m3 _ accounted framed)))
+      (comes_on code 2 ((length number + 2) + (length number + 6)) m1 m2 _ ticked
+      (comes_on code (length number + 2) (length number + 6) m2 m3 _ accounted framed)))
     where
       r0 : ℕ → ℕ
       r0 = start_registers account ticks
@@ -225,7 +233,7 @@ module _ (code : Code) where
       → ((a : ℕ) → a % 4 ≡ 0 → stack_top - account ≤ a → a < stack_top → IsSome (w a))
       → StandsAt code 0 (first_code e)
       → (steps : ℕ) × (steps < 2 ^ 30) × (last : Machine) × ComesTo code steps (record { registers = start_registers account ticks; counter = 8; words = w }) last
-        × code last.counter ecall × (last.registers 31 ≡ 0) × (last.registers 5 ≡ cast_unsigned w32 v)
+      × code last.counter ecall × (last.registers 31 ≡ 0) × (last.registers 5 ≡ cast_unsigned w32 v)
   run_from account ticks e v w closed few means enough most some fits mapped stands =
       (steps + (1 + ((size + 6) + 1)), omega (arith, short, small_code), done.0, done.1, subst (λ p. code p ecall) (sym done.2) stands.1.0, done.3, done.4)
     where
@@ -286,9 +294,12 @@ module _ (code : Code) where
       in_main = entered account ticks b (68 + 8 * size) w
 
       entry_size : 12 + 4 * length (entry b b) ≡ 68 + 8 * size
-      entry_size = omega (arith,
-        length-append (take_account b) (make_frame b), length-append (load_number 7 (pos b)) (bgeu 3 7 (pos 12) ∷ (service (pos 9) ++ sub 3 3 7 ∷ [])),
-        length-append (load_number 7 (pos b)) (sub 2 2 7 ∷ sw 0 2 (pos 0) ∷ add 7 2 7 ∷ sw 1 7 (negsuc 3) ∷ sw 8 7 (negsuc 7) ∷ addi 8 7 (pos 0) ∷ []))
+      entry_size = omega (
+        arith,
+        length-append (take_account b) (make_frame b),
+        length-append (load_number 7 (pos b)) (bgeu 3 7 (pos 12) ∷ (service (pos 9) ++ sub 3 3 7 ∷ [])),
+        length-append (load_number 7 (pos b)) (sub 2 2 7 ∷ sw 0 2 (pos 0) ∷ add 7 2 7 ∷ sw 1 7 (negsuc 3) ∷ sw 8 7 (negsuc 7) ∷ addi 8 7 (pos 0) ∷ []),
+      )
 
       body_stands : StandsAt code (68 + 8 * size) body
       body_stands = subst (λ p. StandsAt code p body) entry_size (stands_back code 12 (entry b b) body main_stands)
@@ -303,7 +314,7 @@ module _ (code : Code) where
           let low_word = with_word w (stack_top - b) (r2 0) in
           let next_word = with_word low_word (stack_top - 4) (r2 1) in
           with_word_mapped next_word (stack_top - 8) (r2 8) a (with_word_mapped low_word (stack_top - 4) (r2 1) a (with_word_mapped w (stack_top - b) (r2 0) a
-            (frame.mapped a (omega arith) (omega (arith, high, large)) (omega arith))))
+          (frame.mapped a (omega arith) (omega (arith, high, large)) (omega arith))))
 
       room : HasRoom stack_top 0 limit
       room = record { aligned = refl; word = omega arith; below = omega (arith, low_limit) }

@@ -1,15 +1,11 @@
 -- Steps of a machine, one after another, and what the instructions of the patterns do in one step.
-use Rattle.std.proofs.Common.{◌≡◌, ℕ, zero, suc, ◌+◌, ◌-◌, ◌*◌, ◌%◌, ◌^◌, ◌<◌, ◌≤◌, List, [], ◌∷◌, ◌++◌, length, Option, None, Some, refl, sym, ap, ◌∙◌, subst, arith, eq-eqb}
-use Rattle.std.specs.Prelude.{ℤ, pos, true, false, ◌==◌, if◌then◌else◌}
-use Rattle.std.specs.Int.{w32, cast_unsigned}
+use Rattle.std.proofs.Common.{◌≡◌, ℕ, zero, suc, ◌+◌, ◌-◌, ◌*◌, ◌%◌, ◌^◌, ◌<◌, List, [], ◌∷◌, ◌++◌, length, Some, refl, sym, subst, arith, eq-eqb}
+use Rattle.std.specs.Prelude.{true, false, ◌==◌, if◌then◌else◌}
 use Rattle.cm_isa.specs.Operation.{Operation}
-use Rattle.cm_isa.specs.declared.execution.Action.{Action}
-use Rattle.cm_isa.specs.declared.execution.Action.TheVariants.{Sets, Loads, Stores, Goes, Links}
+use Rattle.cm_isa.specs.declared.execution.Action.TheVariants.{Loads, Stores}
 use Rattle.cm_isa.specs.declared.execution.Size.TheVariants.{Whole}
-use Rattle.cm_isa.specs.Effect.{follow, action}
-use Rattle.cm_isa.specs.declared.kinds.Kind.TheVariants as kinds
-use Rattle.cm_isa.specs.declared.execution.Size.TheVariants as sizes
-use Rattle.cm_gen.specs.Machine.{Machine, Code, StepsTo, ComesTo, StandsAt, after, acted, moved, with_register, with_word}
+use Rattle.cm_isa.specs.Effect.{follow}
+use Rattle.cm_gen.specs.Machine.{Machine, Code, ComesTo, StandsAt, after, acted, moved, with_register, with_word}
 
 -- the next instruction's place, where it doesn't wrap
 pub follow_is : (p : ℕ) → p + 4 < 2 ^ 32 → follow p ≡ p + 4

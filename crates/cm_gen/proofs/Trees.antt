@@ -1,6 +1,5 @@
 -- What the definitions say of an operation, as the code matches on it.
-use Rattle.std.proofs.Common.{◌≡◌, ℕ, ◌+◌, max, List, ◌∷◌, [], ◌++◌, ap, ◌∙◌}
-use Rattle.cm_isa.specs.Operation.{Operation}
+use Rattle.std.proofs.Common.{◌≡◌, ℕ, ◌+◌, max, ◌∷◌, [], ◌++◌, ap, ◌∙◌}
 use Rattle.cm_syntax.specs.declared.expr.Op.{Op}
 use Rattle.cm_syntax.specs.declared.expr.Expr.{Expr}
 use Rattle.cm_syntax.specs.declared.expr.Expr.TheVariants.{Binary}

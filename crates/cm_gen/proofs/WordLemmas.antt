@@ -1,8 +1,8 @@
 -- Words as numbers: sums, differences and products modulo 2 ^ 32, and addresses with an offset.
-use Rattle.std.proofs.Common.{◌≡◌, ℕ, zero, suc, ◌+◌, ◌-◌, ◌*◌, ◌%◌, ◌^◌, ◌<◌, ◌≤◌, refl, sym, ap, ◌∙◌, arith}
-use Rattle.std.specs.Prelude.{ℤ, pos, negsuc, ◌+ℤ◌, ◌-ℤ◌, ◌*ℤ◌, FitsSigned, unsigned_abs}
-use Rattle.std.specs.Int.{w32, cast_signed, cast_unsigned, int_rem_euclid, int_wrap}
-use Rattle.std.proofs.lemmas.Int.{ints, SFits-int_wrap, fits_signed_from_abs, int_wrap-add_same, to_z-of_z, of_z-to_z, wrapping_add-bits, wrapping_sub-bits, wrapping_mul-bits, int_wrap-add_left, int_wrap_fits}
+use Rattle.std.proofs.Common.{◌≡◌, ℕ, ◌+◌, ◌-◌, ◌%◌, ◌^◌, ◌<◌, ◌≤◌, refl, sym, ap, ◌∙◌, arith}
+use Rattle.std.specs.Prelude.{ℤ, pos, negsuc, ◌+ℤ◌, ◌-ℤ◌, FitsSigned}
+use Rattle.std.specs.Int.{w32, cast_unsigned, int_rem_euclid, int_wrap}
+use Rattle.std.proofs.lemmas.Int.{ints, SFits-int_wrap, fits_signed_from_abs, int_wrap-add_same, to_z-of_z, of_z-to_z, wrapping_add-bits, wrapping_sub-bits, int_wrap-add_left, int_wrap_fits}
 use Rattle.cm_isa.specs.Alu.{int, word, offset}
 use Rattle.cm_syntax.specs.Word.{wrapped}
 use Rattle.cm_gen.specs.Code.{low_part, high_part}
@@ -100,9 +100,9 @@ far_offset o f h =
     let lower = low_part o in
     let base = wrapped (upper +ℤ int f) in
     let first : word (int (cast_unsigned w32 upper) +ℤ int f) ≡ cast_unsigned w32 base =
-      ap (λ u. word (u +ℤ int f)) (int-cast_unsigned upper (wrapped_fits _)) ∙ sym (cast_unsigned-wrapped (upper +ℤ int f)) in
+    ap (λ u. word (u +ℤ int f)) (int-cast_unsigned upper (wrapped_fits _)) ∙ sym (cast_unsigned-wrapped (upper +ℤ int f)) in
     let second : word (pos (cast_unsigned w32 base) +ℤ lower) ≡ word (base +ℤ lower) =
-      word-pos_add (cast_unsigned w32 base) lower (cast_unsigned_below base (wrapped_fits _)) ∙ ap (λ u. word (u +ℤ lower)) (int-cast_unsigned base (wrapped_fits _)) in
+    word-pos_add (cast_unsigned w32 base) lower (cast_unsigned_below base (wrapped_fits _)) ∙ ap (λ u. word (u +ℤ lower)) (int-cast_unsigned base (wrapped_fits _)) in
     let third : word (base +ℤ lower) ≡ word ((upper +ℤ int f) +ℤ lower) = word-wrapped_add (upper +ℤ int f) lower in
     let fourth : word ((upper +ℤ int f) +ℤ lower) ≡ word (wrapped (o -ℤ lower) +ℤ (int f +ℤ lower)) = ap word (turned (o -ℤ lower) (int f) lower) in
     let fifth : word (wrapped (o -ℤ lower) +ℤ (int f +ℤ lower)) ≡ word (int f +ℤ o) = word-wrapped_add (o -ℤ lower) (int f +ℤ lower) ∙ ap word (whole o lower (int f)) in

@@ -1,5 +1,5 @@
 -- A run of an image: where it starts, and how it ends.
-use Rattle.std.specs.Prelude.{◌≡◌, ℕ, ◌+◌, ◌-◌, ◌*◌, ◌/◌, ◌%◌, ◌^◌, ◌<◌, ◌≤◌, ◌==◌, if◌then◌else◌, List, [], ◌∷◌, length, slice_index, ℤ, Some, IsSome}
+use Rattle.std.specs.Prelude.{◌≡◌, ℕ, ◌-◌, ◌/◌, ◌%◌, ◌^◌, ◌<◌, ◌≤◌, ◌==◌, if◌then◌else◌, List, [], ◌∷◌, length, slice_index, ℤ, Some, IsSome}
 use Rattle.std.specs.Int.{w32, cast_signed}
 use Rattle.cm_isa.specs.Formats.{Row}
 use Rattle.cm_isa.specs.Operation.{Operation}

@@ -9,4 +9,3 @@ mod instructions;
 mod patterns;
 
 pub use first::make_first;
-

@@ -47,11 +47,7 @@ fn load_high(code: &mut List<Instr>, register: u8, number: i32) -> Result<(), Me
 }
 
 /// The register takes a number.
-pub(crate) fn load_number(
-    code: &mut List<Instr>,
-    register: u8,
-    number: i32,
-) -> Result<(), Memory>
+pub(crate) fn load_number(code: &mut List<Instr>, register: u8, number: i32) -> Result<(), Memory>
     requires { register < 32 }
     ensures { OnOk result (code.new ≡ code.old ++ pattern.load_number register number) }
 {

@@ -1,4 +1,4 @@
-use Rattle.std.proofs.Common.{◌≡◌, ◌+◌, ◌≤◌, ap, sym, ◌∙◌, arith}
+use Rattle.std.proofs.Common.{◌+◌, ap, ◌∙◌, arith}
 use Rattle.cm_syntax.specs.Expr as expression
 use Rattle.cm_gen.proofs.Trees.{operator_count-Binary, temporaries-Binary}
 use Rattle.cm_gen.proofs.first.+temporaries.Goals as goal

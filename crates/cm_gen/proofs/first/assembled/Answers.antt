@@ -10,6 +10,6 @@ loop-instr-preserved c =
     let i = c.loop-instr.instr-index in
     let item = c.instr-item.result in
     let more : take (i + 1) code ≡ take i code ++ item ∷ [] =
-      take_more code i item c.loop-instr-test.true ∙ ap (λ x. take i code ++ x ∷ []) (sym c.instr-item.is) in
+    take_more code i item c.loop-instr-test.true ∙ ap (λ x. take i code ++ x ∷ []) (sym c.instr-item.is) in
     rw more (subst (λ words. AreWordsOf words (take i code ++ item ∷ [])) (sym c.in_ok-push.ensures.ok)
-      (AreWordsOf-push c.loop-instr.words (take i code) c.encode.result item c.loop-instr.invariant c.encode.ensures))
+    (AreWordsOf-push c.loop-instr.words (take i code) c.encode.result item c.loop-instr.invariant c.encode.ensures))

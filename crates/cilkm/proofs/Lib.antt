@@ -1,0 +1,6 @@
+pub mod Tokens
+pub mod Chains
+pub mod Form
+pub mod Once
+pub mod HartLaws
+pub mod StillLaws

@@ -1,0 +1,98 @@
+-- From the machine's run to the verdict, and from the verdict to the status.
+use Rattle.std.proofs.Common.{◌≡◌, ℕ, ◌<◌, ◌≤◌, ◌^◌, List, [], ◌∷◌, length, Option, Some, None, refl, sym, ap, ◌∙◌, subst, arith, rules, inl, inr}
+use Rattle.std.specs.Prelude.{ℤ, ◌⊎◌, IfSome, Contains}
+use Rattle.cm_text.specs.Counts.{Rose}
+use Rattle.cm_syntax.specs.declared.expr.Expr.{Expr}
+use Rattle.cm_syntax.specs.Expr.{value_of, operator_count}
+use Rattle.cm_gen.specs.Code.{frame_bytes}
+use Rattle.cm_gen.specs.Run.{Ends, RunsTo}
+use Rattle.cm_gen.proofs.Program.{few_temporaries}
+use Rattle.cilkm.specs.First.{IsFirstForm}
+use Rattle.cilkm.specs.Stack.{start_machine}
+use Rattle.cilkm.specs.declared.command.Command.{Command}
+use Rattle.cilkm.specs.declared.command.Command.TheVariants.{Serial}
+use Rattle.cilkm.specs.declared.verdict.Refusal.TheVariants.{Syntax}
+use Rattle.cilkm.specs.declared.verdict.Verdict.{Verdict}
+use Rattle.cilkm.specs.declared.verdict.Verdict.TheVariants.{Usage, Read, Long, Refused, Value, Memory}
+use Rattle.cilkm.specs.Verdict.{verdict_status, Means, IsCaused, Says, Tells}
+use Rattle.cilkm.proofs.HartLaws.{stack_start}
+use Rattle.cilkm.proofs.Once.{one_form}
+
+-- a program that runs to a value does so from the start that the settings give
+pub runs_from_start : (image : List ℕ) (e : Expr ℕ) (stack : List ℕ) → length stack ≡ 65536 → operator_count e ≤ 64 → RunsTo image e
+    → (value : ℤ) × (value_of e ≡ Some value) × (steps : ℕ) × (steps < 2 ^ 30) × Ends image (start_machine stack 262144 10000000) steps value
+runs_from_start image e stack size few runs =
+    let enough : frame_bytes e ≤ 262144 = omega (arith, few_temporaries e 0) in
+    let ran = runs.2 262144 10000000 (start_machine stack 262144 10000000) enough (omega arith) (omega arith) (omega arith)
+    (stack_start stack 262144 10000000 (omega arith) (omega arith)) in
+    (runs.0, runs.1, ran.0, ran.1, ran.2)
+
+-- what the bytes mean is the cause, where they are those that the source told
+pub caused_by : (verdict : Verdict) (bytes : List ℕ) (input : Option (List ℕ)) (before now : ℕ) → Means (Some Serial) bytes verdict
+    → IfSome input (λ told. bytes ≡ told) → IsCaused (Some Serial) input before now verdict
+caused_by Usage bytes input before now means told = absurd means
+caused_by Read bytes input before now means told = absurd means
+caused_by Memory bytes input before now means told = tt
+caused_by Long bytes None before now means told = (search rules, tt)
+caused_by Long bytes (Some all) before now means told = (search rules, subst (λ b. Means (Some Serial) b Long) told means)
+caused_by (Refused place Syntax) bytes None before now means told = (search rules, tt)
+caused_by (Refused place Syntax) bytes (Some all) before now means told = (search rules, subst (λ b. Means (Some Serial) b (Refused place Syntax)) told means)
+caused_by (Value n) bytes None before now means told = (search rules, tt)
+caused_by (Value n) bytes (Some all) before now means told = (search rules, subst (λ b. Means (Some Serial) b (Value n)) told means)
+
+-- the statuses that are told
+status_of : (verdict : Verdict) → Contains (0 ∷ 1 ∷ 2 ∷ 5 ∷ 6 ∷ 7 ∷ 8 ∷ []) (verdict_status verdict)
+status_of (Value n) = (0, omega arith, refl)
+status_of (Refused place Syntax) = (1, omega arith, refl)
+status_of Usage = (2, omega arith, refl)
+status_of Read = (3, omega arith, refl)
+status_of Memory = (5, omega arith, refl)
+status_of Long = (6, omega arith, refl)
+
+pub statuses : (verdict : Verdict) (status : ℕ) (old new : Option (List ℕ)) (before now : ℕ) → Tells verdict status old new before now
+    → Contains (0 ∷ 1 ∷ 2 ∷ 5 ∷ 6 ∷ 7 ∷ 8 ∷ []) status
+statuses verdict status old new before now (said, which, inl says) = subst (Contains (0 ∷ 1 ∷ 2 ∷ 5 ∷ 6 ∷ 7 ∷ 8 ∷ [])) (sym says.status_is) (status_of said)
+statuses verdict status old new before now (said, which, inr breaks) =
+    subst (Contains (0 ∷ 1 ∷ 2 ∷ 5 ∷ 6 ∷ 7 ∷ 8 ∷ [])) (sym breaks.status_is) (4, omega arith, refl)
+
+-- ---- a source of the form
+
+module _ (input : List ℕ) (e : Expr ℕ) (form : IsFirstForm input e) where
+  -- its verdict is its value, or want of memory, where no read failed
+  verdict_is : (verdict : Verdict) (before now : ℕ) → IsCaused (Some Serial) (Some input) before now verdict → (Rose before now → ⊥)
+      → ((value : ℤ) × (value_of e ≡ Some value) × (verdict ≡ Value value)) ⊎ (verdict ≡ Memory)
+  verdict_is Usage before now caused calm = absurd (some_none caused)
+    where
+      some_none : Some Serial ≡ None → ⊥
+      some_none h = cc
+  verdict_is Read before now caused calm = absurd (calm caused.1)
+  verdict_is Long before now caused calm = absurd (omega (arith, caused.1, form.short))
+  verdict_is (Refused place Syntax) before now caused calm = absurd (caused.1.2 e form)
+  verdict_is (Value n) before now caused calm =
+      let found = caused.1 in
+      let same = one_form input found.1 e found.2 form in
+      inl (n, ap value_of (sym same) ∙ found.3, refl)
+  verdict_is Memory before now caused calm = inr refl
+
+  -- and it is said, where no write failed
+  pub says_value : (verdict : Verdict) (status : ℕ) (old new : Option (List ℕ)) (before now sink_before sink_now : ℕ)
+      → IsCaused (Some Serial) (Some input) before now verdict → Tells verdict status old new sink_before sink_now
+      → (Rose before now → ⊥) → (Rose sink_before sink_now → ⊥)
+      → ((value : ℤ) × (value_of e ≡ Some value) × Says (Value value) status old new) ⊎ Says Memory status old new
+  says_value verdict status old new before now sink_before sink_now caused (said, which, inr breaks) calm still = absurd (still breaks.rose)
+  says_value verdict status old new before now sink_before sink_now caused (said, inr memory, inl says) calm still =
+      inr (subst (λ (v : Verdict). Says v status old new) memory says)
+  says_value verdict status old new before now sink_before sink_now caused (said, inl same, inl says) calm still =
+      elim (verdict_is verdict before now caused calm) [
+        | inl found ↦ inl (found.0, found.1, subst (λ (v : Verdict). Says v status old new) (same ∙ found.2) says)
+        | inr memory ↦ inr (subst (λ (v : Verdict). Says v status old new) (same ∙ memory) says)
+      ]
+
+-- the same, where the source may not tell its bytes
+pub says_told_value : (input : Option (List ℕ)) (command : Option Command) (verdict : Verdict) (status : ℕ) (old new : Option (List ℕ)) (before now sink_before sink_now : ℕ)
+    → command ≡ Some Serial → IsCaused command input before now verdict → Tells verdict status old new sink_before sink_now
+    → IfSome input (λ bytes. (e : Expr ℕ) → IsFirstForm bytes e → (Rose before now → ⊥) → (Rose sink_before sink_now → ⊥)
+    → ((value : ℤ) × (value_of e ≡ Some value) × Says (Value value) status old new) ⊎ Says Memory status old new)
+says_told_value None command verdict status old new before now sink_before sink_now is caused told = tt
+says_told_value (Some bytes) command verdict status old new before now sink_before sink_now is caused told = λ e form calm still.
+    says_value bytes e form verdict status old new before now sink_before sink_now (subst (λ c. IsCaused c (Some bytes) before now verdict) is caused) told calm still

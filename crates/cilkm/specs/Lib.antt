@@ -1,0 +1,4 @@
+pub mod Scan
+pub mod First
+pub mod Stack
+pub mod Verdict

@@ -1,0 +1,140 @@
+//! A hart over one list of words: it runs the words of an image from their start to the end service.
+ghost use Rattle.std.specs.Prelude.{◌≡◌, ℕ, ◌+◌, ◌*◌, ◌<◌, ◌≤◌, ◌^◌, ℤ, List, length, replicate, nat_lt, slice_index, Some, IfSome, IfOk, Option};
+ghost use Rattle.cm_isa.specs.Operation.{Operation};
+ghost use Rattle.cm_isa.specs.declared.execution.Next.TheVariants.{At, Service};
+ghost use Rattle.cm_gen.specs.Machine.{Machine, StepsTo};
+ghost use Rattle.cm_gen.specs.Operations as operation;
+ghost use Rattle.cm_gen.specs.Run.{Ends, Image};
+ghost use Rattle.cilkm.specs.Stack.{stack_shown, stack_machine, start_machine, first_registers};
+
+use cm_isa::{Instr, Next, Regs, Shown, Words, decode, effect};
+use cm_text::Memory;
+use std::alloc::Global;
+use std::marker::Model;
+
+/// The address just above the stack.
+const STACK_TOP: u32 = 0x4000_0000;
+
+/// The words of the stack: 64 pages of 4,096 bytes.
+const STACK_WORDS: usize = 65536;
+
+/// The place of main's word in the table of functions.
+const TABLE_START: u32 = 8;
+
+/// The number of the service that ends a run.
+const END_SERVICE: u32 = 0;
+
+/// The words of the stack, from the lowest address on. Contracts see a list of them.
+#[derive(Drop)]
+pub(crate) struct Stack {
+    words: Vec<u32>,
+}
+
+impl Model for Stack {
+    ghost use Rattle.std.specs.Prelude.{ℕ, List, ◌≤◌, vec_len};
+
+    ghost Value = { List ℕ };
+
+    ghost view = { λ stack. stack.words.items };
+
+    ghost invariant = { λ stack. vec_len stack.words ≤ 65536 };
+}
+
+impl Stack {
+    /// A stack of 64 pages of 4,096 bytes, each word 0. `Memory` is want of memory.
+    pub(crate) fn new(alloc: Global) -> Result<Stack, Memory>
+        ensures { IfOk result (λ stack. length stack ≡ 65536) }
+    {
+        let words = vec![in alloc; 0; STACK_WORDS]?;
+        Ok(Stack { words })
+    }
+}
+
+impl Words for Stack {
+    ghost shown = { λ stack. stack_shown (length stack) };
+
+    ghost allowed = { λ stack place. nat_lt place (length stack) };
+
+    ghost word_at = { λ stack. slice_index stack };
+
+    fn show(&self, address: u32) -> Shown {
+        let low = STACK_TOP - 4 * self.words.len() as u32;
+        if address < low {
+            Shown::Outside
+        } else if address < STACK_TOP {
+            Shown::Place((address - low) / 4)
+        } else {
+            Shown::Outside
+        }
+    }
+
+    fn load(&mut self, place: u32) -> u32 {
+        self.words[place as usize]
+    }
+
+    fn store(&mut self, place: u32, word: u32) {
+        self.words[place as usize] = word;
+    }
+}
+
+/// The instruction at a place of the image.
+fn fetch(image: &[u32], place: u32) -> Option<Instr>
+    ensures row { IfSome result (λ i. Image image.now place i) }
+    ensures found { (i : Operation) → Image image.now place i → result ≡ Some i }
+{
+    if place % 4 != 0 {
+        return None;
+    }
+    let word = image.get(place as usize / 4)?;
+    decode(*word)
+}
+
+/// The effect of the instruction at a place, and what comes next; None where no instruction stands there.
+fn step(image: &[u32], regs: &mut Regs, place: u32, stack: &mut Stack) -> Option<Next>
+    requires { length regs.old ≡ 32 }
+    ensures registers { length regs.new ≡ 32 }
+    ensures goes { (m : Machine) → StepsTo (Image image.now) (stack_machine stack.old regs.old place) m
+        → (result ≡ Some (At m.counter)) × (stack_machine stack.new regs.new m.counter ≡ m) }
+    ensures serves { Image image.now place operation.ecall → (result ≡ Some Service) × (regs.new ≡ regs.old) }
+{
+    let instr = fetch(image, place)?;
+    Some(effect(instr, regs, place, stack))
+}
+
+/// Runs the image from its start to the end service, with an account of so many bytes and with so many
+/// ticks, and gives the number in register 5 there.
+pub(crate) fn run(image: &[u32], stack: &mut Stack, account: u32, ticks: u32) -> i32
+    requires { (value : ℤ) × (steps : ℕ) × (steps < 2 ^ 30) × Ends image.now (start_machine stack.old account ticks) steps value }
+    ensures { (value : ℤ) (steps : ℕ) → Ends image.now (start_machine stack.old account ticks) steps value → result ≡ value }
+{
+    let mut regs = first_regs(account, ticks);
+    let mut place = TABLE_START;
+    'run: for _ in 0..u32::MAX {
+        let Some(next) = step(image, &mut regs, place, stack) else {
+            unreachable!()
+        };
+        match next {
+            Next::At(next) => place = next,
+            Next::Service => {
+                let number = regs.get(31);
+                prove!(number == END_SERVICE);
+                return regs.get(5).cast_signed();
+            }
+            Next::PageFault { .. } => unreachable!(),
+            Next::Fault { .. } => unreachable!(),
+        }
+    }
+    unreachable!()
+}
+
+/// The registers at the start of a run.
+fn first_regs(account: u32, ticks: u32) -> Regs
+    ensures value { result ≡ first_registers account ticks }
+    ensures count { length result ≡ 32 }
+{
+    let mut regs = Regs::zero();
+    regs.set(2, STACK_TOP);
+    regs.set(3, account);
+    regs.set(4, ticks);
+    regs
+}

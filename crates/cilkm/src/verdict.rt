@@ -1,0 +1,66 @@
+//! What the program answers: its verdicts, their texts and statuses.
+ghost use Rattle.std.specs.Prelude.{◌≡◌, IfOk};
+ghost use Rattle.std.specs.String.{string_bytes};
+ghost use Rattle.cilkm.specs.Verdict.{verdict_status, verdict_text};
+
+use std::alloc::{AllocError, Global};
+
+/// Why a source is refused.
+#[derive(Clone, Copy, Debug, PartialEq, Eq)]
+pub enum Refusal {
+    /// It isn't of the form that is read.
+    Syntax,
+}
+
+/// What a run of the program comes to.
+#[derive(Clone, Copy, Debug, PartialEq, Eq)]
+pub enum Verdict {
+    /// The words after the program's name are no command.
+    Usage,
+    /// Standard input couldn't be read.
+    Read,
+    /// Standard input has more than 4,194,304 bytes.
+    Long,
+    /// The source is refused at a place, a number of bytes, for a reason.
+    Refused(u32, Refusal),
+    /// The program ended with this value.
+    Value(i32),
+    /// There was no memory left.
+    Memory,
+}
+
+impl Verdict {
+    ghost use Rattle.std.specs.Prelude.{◌≡◌, IfOk};
+    ghost use Rattle.std.specs.String.{string_bytes};
+    ghost use Rattle.cilkm.specs.Verdict.{verdict_status, verdict_text};
+
+    /// The status with which the program ends.
+    pub fn status(self) -> u8
+        ensures { result ≡ verdict_status self }
+    {
+        match self {
+            Verdict::Usage => 2,
+            Verdict::Read => 5,
+            Verdict::Long => 8,
+            Verdict::Refused(..) => 1,
+            Verdict::Value(_) => 0,
+            Verdict::Memory => 7,
+        }
+    }
+
+    /// The line that the program prints.
+    pub fn text(self, alloc: Global) -> Result<String, AllocError>
+        ensures { IfOk result (λ text. string_bytes text ≡ verdict_text self) }
+    {
+        match self {
+            Verdict::Usage => String::from_str(alloc, "usage\n"),
+            Verdict::Read => String::from_str(alloc, "read\n"),
+            Verdict::Long => String::from_str(alloc, "long\n"),
+            Verdict::Refused(place, Refusal::Syntax) => format!(in alloc;
+                "refused {place} syntax\n"
+            ),
+            Verdict::Value(value) => format!(in alloc; "value {value}\n"),
+            Verdict::Memory => String::from_str(alloc, "memory\n"),
+        }
+    }
+}
