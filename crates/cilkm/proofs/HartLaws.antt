@@ -4,18 +4,24 @@ use Rattle.std.proofs.lemmas.Bool.{cases_lt, le-ltb, lt-ltb, ltb-true, ltb-false
 use Rattle.std.proofs.lemmas.List.{get_or-replicate, get_or_past, length-replicate}
 use Rattle.std.specs.Prelude.{Bool, true, false, nat_lt, if◌then◌else◌, ◌==◌, slice_index, replicate, IsTrue, ℤ, Option}
 use Rattle.cm_isa.specs.Registers.{put}
-use Rattle.cm_isa.specs.Effect.{MayAccess}
+use Rattle.cm_isa.specs.Effect.{MayAccess, outcome}
+use Rattle.cm_isa.specs.Operation.{Operation, ecall}
+use Rattle.cm_isa.specs.Places.{Stands}
+use Rattle.cm_isa.specs.Words.{Writes}
 use Rattle.cm_isa.specs.declared.execution.Action.{Action}
 use Rattle.cm_isa.specs.declared.execution.Action.TheVariants.{Sets, Passes, Goes, Links, Loads, Stores, Serves, Breaks}
+use Rattle.cm_isa.specs.declared.memory.Shown.{Shown}
 use Rattle.cm_isa.specs.declared.memory.Shown.TheVariants.{Place, Outside}
 use Rattle.cm_isa.specs.declared.execution.Next.{Next}
-use Rattle.cm_isa.specs.declared.execution.Next.TheVariants.{At, Service, PageFault, Fault}
 use Rattle.cm_isa.specs.declared.execution.FaultKind.{FaultKind}
-use Rattle.cm_gen.specs.Operations.{ecall}
-use Rattle.cm_gen.specs.Machine.{Machine, StepsTo, IsMap, word_address}
+use Rattle.cm_hart.specs.Step.{halt_of, hart_after, pc_after}
+use Rattle.cm_hart.specs.declared.harts.Hart.{Hart}
+use Rattle.cm_hart.specs.declared.harts.Halt.{Halt}
+use Rattle.cm_hart.specs.declared.harts.Halt.TheVariants.{Going, Service, PageFault, Fault}
+use Rattle.cm_gen.specs.Machine.{Machine, StepsTo, IsMap, word_address, machine_at}
 use Rattle.std.specs.Int.{w32, cast_signed}
-use Rattle.cm_gen.specs.Run.{stack_top, start_registers, IsStart, Image, Ends}
-use Rattle.cm_gen.proofs.Bridge.{put_register}
+use Rattle.cm_gen.specs.Run.{stack_top, start_registers, IsStart, Ends}
+use Rattle.cm_gen.proofs.Bridge.{put_register, follows, rd_below, length-outcome}
 use Rattle.cm_gen.proofs.Expressions.{is_some_at}
 use Rattle.cilkm.specs.Stack.{stack_low, stack_shown, first_registers, stack_machine, start_machine}
 
@@ -123,57 +129,84 @@ stack_start stack account ticks whole small = record {
 
 -- ---- steps to the end
 
--- what a step answers and leaves, where a run ends after so many steps with a value: the end service, or the next machine
-pub data Leads (image stack regs : List ℕ) (answer : Option Next) (new_stack new_regs : List ℕ) : (steps : ℕ) → (value : ℤ) → Type 0 where
-  ended : {value : ℤ} → answer ≡ Some Service → new_regs ≡ regs → slice_index regs 31 ≡ 0 → cast_signed w32 (slice_index regs 5) ≡ value → Leads image stack regs answer new_stack new_regs 0 value
-  going : {value : ℤ} (steps : ℕ) (place : ℕ) → answer ≡ Some (At place) → Ends image (stack_machine new_stack new_regs place) steps value → Leads image stack regs answer new_stack new_regs (suc steps) value
+-- What one step answers and leaves: it does the instruction at the hart's place, and at an `ecall` it answers the service and leaves the hart.
+pub record Stepped (image stack : List ℕ) (hart : Hart) (answer : Halt) (new_stack : List ℕ) (new : Hart) : Type 0 where
+  pub goes : (m : Machine) → StepsTo (Stands image) (stack_machine stack hart.regs hart.pc) m
+      → (answer ≡ Going) × (length new.regs ≡ 32) × (stack_machine new_stack new.regs new.pc ≡ m)
+  pub serves : Stands image hart.pc ecall → (answer ≡ Service (slice_index hart.regs 31)) × (new ≡ hart)
 
-pub leads_by : (image stack regs : List ℕ) (place : ℕ) (answer : Option Next) (new_stack new_regs : List ℕ)
-    → ((m : Machine) → StepsTo (Image image) (stack_machine stack regs place) m → (answer ≡ Some (At m.counter)) × (stack_machine new_stack new_regs m.counter ≡ m))
-    → (Image image place ecall → (answer ≡ Some Service) × (new_regs ≡ regs))
-    → (steps : ℕ) (value : ℤ) → Ends image (stack_machine stack regs place) steps value → Leads image stack regs answer new_stack new_regs steps value
-leads_by image stack regs place answer new_stack new_regs goes serves zero value ends =
-    let here : ends.last ≡ stack_machine stack regs place = sym ends.comes in
-    let at_end = serves (subst (λ (m : Machine). Image image m.counter ecall) here ends.service) in
+-- by the contract of a step
+pub stepped : (image stack : List ℕ) (hart : Hart) (answer : Halt) (new_stack : List ℕ) (new : Hart) → length hart.regs ≡ 32
+    → ((i : Operation) → Stands image hart.pc i → answer ≡ halt_of (outcome (stack_shown (length stack)) (slice_index stack) i hart.regs hart.pc).next (slice_index hart.regs 31))
+    → ((i : Operation) → Stands image hart.pc i → new ≡ hart_after (outcome (stack_shown (length stack)) (slice_index stack) i hart.regs hart.pc) hart.pc)
+    → ((i : Operation) → Stands image hart.pc i → Writes (slice_index stack) (slice_index new_stack) (outcome (stack_shown (length stack)) (slice_index stack) i hart.regs hart.pc).write)
+    → stack_shown (length new_stack) ≡ stack_shown (length stack)
+    → Stepped image stack hart answer new_stack new
+stepped image stack hart answer new_stack new shape halt left words same_map = record { goes = goes; serves = λ stands. (halt ecall stands, left ecall stands) }
+  where
+    show : ℕ → Shown
+    show = stack_shown (length stack)
+
+    goes : (m : Machine) → StepsTo (Stands image) (stack_machine stack hart.regs hart.pc) m
+        → (answer ≡ Going) × (length new.regs ≡ 32) × (stack_machine new_stack new.regs new.pc ≡ m)
+    goes m step =
+        let i = step.instruction in
+        let does = follows show (slice_index stack) hart.regs hart.pc (stack_is_map (length stack)) i m (omega (arith, rd_below _ i step.stands.2, shape)) step.effect in
+        let hart_is = left i step.stands in
+        let regs_are = ap (λ (h : Hart). h.regs) hart_is in
+        let pc_is = ap (λ (h : Hart). h.pc) hart_is ∙ ap (λ (n : Next). pc_after n hart.pc) does.next in (
+          halt i step.stands ∙ ap (λ (n : Next). halt_of n (slice_index hart.regs 31)) does.next,
+          ap length regs_are ∙ length-outcome show (slice_index stack) i hart.regs hart.pc ∙ shape,
+          ap (λ s. machine_at s (slice_index new_stack) new.regs new.pc) same_map
+              ∙ ap (λ r. machine_at show (slice_index new_stack) r new.pc) regs_are
+              ∙ ap (λ p. machine_at show (slice_index new_stack) (outcome show (slice_index stack) i hart.regs hart.pc).registers p) pc_is
+              ∙ does.makes (slice_index new_stack) (words i step.stands),
+        )
+
+-- where a run ends after so many steps with a value, a step comes to the end service or to the next machine
+pub data Leads (image : List ℕ) (hart : Hart) (answer : Halt) (new_stack : List ℕ) (new : Hart) : (steps : ℕ) → (value : ℤ) → Type 0 where
+  ended : {value : ℤ} → answer ≡ Service (slice_index hart.regs 31) → new ≡ hart → slice_index hart.regs 31 ≡ 0 → cast_signed w32 (slice_index hart.regs 5) ≡ value → Leads image hart answer new_stack new 0 value
+  going : {value : ℤ} (steps : ℕ) → answer ≡ Going → length new.regs ≡ 32 → Ends image (stack_machine new_stack new.regs new.pc) steps value → Leads image hart answer new_stack new (suc steps) value
+
+pub leads_by : (image stack : List ℕ) (hart : Hart) (answer : Halt) (new_stack : List ℕ) (new : Hart) → Stepped image stack hart answer new_stack new
+    → (steps : ℕ) (value : ℤ) → Ends image (stack_machine stack hart.regs hart.pc) steps value → Leads image hart answer new_stack new steps value
+leads_by image stack hart answer new_stack new did zero value ends =
+    let here : ends.last ≡ stack_machine stack hart.regs hart.pc = sym ends.comes in
+    let at_end = did.serves (subst (λ (m : Machine). Stands image m.counter ecall) here ends.service) in
     ended at_end.0 at_end.1 (ap (λ (m : Machine). m.registers 31) (sym here) ∙ ends.number) (ap (λ (m : Machine). cast_signed w32 (m.registers 5)) (sym here) ∙ ends.result)
-leads_by image stack regs place answer new_stack new_regs goes serves (suc steps) value ends =
+leads_by image stack hart answer new_stack new did (suc steps) value ends =
     let next = ends.comes.0 in
-    let went = goes next ends.comes.1 in
+    let went = did.goes next ends.comes.1 in
     let rest : Ends image next steps value = record { last = ends.last; comes = ends.comes.2; service = ends.service; number = ends.number; result = ends.result } in
-    going steps next.counter went.0 (subst (λ (m : Machine). Ends image m steps value) (sym went.1) rest)
+    going steps went.0 went.1 (subst (λ (m : Machine). Ends image m steps value) (sym went.2) rest)
 
-module _ (image stack regs : List ℕ) (answer : Option Next) (new_stack new_regs : List ℕ) where
-  -- on the way to an end there is always an instruction, and it never faults
-  pub not_none : (steps : ℕ) (value : ℤ) → answer ≡ None → Leads image stack regs answer new_stack new_regs steps value → ⊥
-  not_none _ _ e (ended service same number value) = cc
-  not_none _ _ e (going steps place at rest) = cc
-
-  pub not_page_fault : (address steps : ℕ) (value : ℤ) → answer ≡ Some (PageFault address) → Leads image stack regs answer new_stack new_regs steps value → ⊥
+module _ (image : List ℕ) (hart : Hart) (answer : Halt) (new_stack : List ℕ) (new : Hart) where
+  -- on the way to an end nothing faults
+  pub not_page_fault : (address steps : ℕ) (value : ℤ) → answer ≡ PageFault address → Leads image hart answer new_stack new steps value → ⊥
   not_page_fault address _ _ e (ended service same number value) = cc
-  not_page_fault address _ _ e (going steps place at rest) = cc
+  not_page_fault address _ _ e (going steps goes shape rest) = cc
 
-  pub not_fault : (kind : FaultKind) (address steps : ℕ) (value : ℤ) → answer ≡ Some (Fault kind address) → Leads image stack regs answer new_stack new_regs steps value → ⊥
+  pub not_fault : (kind : FaultKind) (address steps : ℕ) (value : ℤ) → answer ≡ Fault kind address → Leads image hart answer new_stack new steps value → ⊥
   not_fault kind address _ _ e (ended service same number value) = cc
-  not_fault kind address _ _ e (going steps place at rest) = cc
+  not_fault kind address _ _ e (going steps goes shape rest) = cc
 
   -- at the service the run is at its end
-  pub at_service : (steps : ℕ) (value : ℤ) → answer ≡ Some Service → Leads image stack regs answer new_stack new_regs steps value
-      → (new_regs ≡ regs) × (slice_index regs 31 ≡ 0) × (cast_signed w32 (slice_index regs 5) ≡ value)
-  at_service _ _ e (ended service same number value) = (same, number, value)
-  at_service _ _ e (going steps place at rest) = absurd (apart place (sym e ∙ at))
+  pub at_service : (n steps : ℕ) (value : ℤ) → answer ≡ Service n → Leads image hart answer new_stack new steps value
+      → (new ≡ hart) × (n ≡ 0) × (cast_signed w32 (slice_index hart.regs 5) ≡ value)
+  at_service n _ _ e (ended service same number value) = (same, number_is (slice_index hart.regs 31) (sym service ∙ e) ∙ number, value)
     where
-      apart : (p : ℕ) → Some Service ≡ Some (At p) → ⊥
-      apart p e = cc
+      number_is : (x : ℕ) → Service x ≡ Service n → n ≡ x
+      number_is x e = cc
+  at_service n _ _ e (going steps goes shape rest) = absurd (apart n (sym e ∙ goes))
+    where
+      apart : (n : ℕ) → Service n ≡ Going → ⊥
+      apart n e = cc
 
-  -- at another place it goes on from there
-  pub at_place : (place steps : ℕ) (value : ℤ) → answer ≡ Some (At place) → Leads image stack regs answer new_stack new_regs steps value
-      → (left : ℕ) × (steps ≡ left + 1) × Ends image (stack_machine new_stack new_regs place) left value
-  at_place place _ _ e (ended service same number value) = absurd (apart place (sym service ∙ e))
+  -- and else it goes on
+  pub at_going : (steps : ℕ) (value : ℤ) → answer ≡ Going → Leads image hart answer new_stack new steps value
+      → (left : ℕ) × (steps ≡ left + 1) × (length new.regs ≡ 32) × Ends image (stack_machine new_stack new.regs new.pc) left value
+  at_going _ _ e (ended service same number value) = absurd (apart (slice_index hart.regs 31) (sym service ∙ e))
     where
-      apart : (p : ℕ) → Some Service ≡ Some (At p) → ⊥
-      apart p e = cc
-  at_place place _ value e (going steps there at rest) =
-      (steps, omega arith, subst (λ p. Ends image (stack_machine new_stack new_regs p) steps value) (same there place (sym at ∙ e)) rest)
-    where
-      same : (p q : ℕ) → Some (At p) ≡ Some (At q) → p ≡ q
-      same p q e = cc
+      apart : (n : ℕ) → Service n ≡ Going → ⊥
+      apart n e = cc
+  at_going _ value e (going steps goes shape rest) = (steps, omega arith, shape, rest)

@@ -1,13 +1,11 @@
-//! A hart over one list of words: it runs the words of an image from their start to the end service.
-ghost use Rattle.std.specs.Prelude.{◌≡◌, ℕ, ◌+◌, ◌*◌, ◌<◌, ◌≤◌, ◌^◌, ℤ, List, length, replicate, nat_lt, slice_index, Some, IfSome, IfOk, Option};
-ghost use Rattle.cm_isa.specs.Operation.{Operation};
-ghost use Rattle.cm_isa.specs.declared.execution.Next.TheVariants.{At, Service};
-ghost use Rattle.cm_gen.specs.Machine.{Machine, StepsTo};
-ghost use Rattle.cm_gen.specs.Operations as operation;
-ghost use Rattle.cm_gen.specs.Run.{Ends, Image};
-ghost use Rattle.cilkm.specs.Stack.{stack_shown, stack_machine, start_machine, first_registers};
+//! The stack, and a run of an image on one hart from its start to the end service.
+ghost use Rattle.std.specs.Prelude.{◌≡◌, ℕ, ◌<◌, ◌≤◌, ◌^◌, ℤ, List, length, nat_lt, slice_index, IfOk};
+ghost use Rattle.cm_gen.specs.Run.{Ends};
+ghost use Rattle.cilkm.specs.Stack.{stack_shown, start_machine, first_registers};
 
-use cm_isa::{Instr, Next, Regs, Shown, Words, decode, effect};
+use cm_asm::Image;
+use cm_hart::{Halt, Hart, step};
+use cm_isa::{Regs, Shown, Words};
 use cm_text::Memory;
 use std::alloc::Global;
 use std::marker::Model;
@@ -77,51 +75,25 @@ impl Words for Stack {
     }
 }
 
-/// The instruction at a place of the image.
-fn fetch(image: &[u32], place: u32) -> Option<Instr>
-    ensures row { IfSome result (λ i. Image image.now place i) }
-    ensures found { (i : Operation) → Image image.now place i → result ≡ Some i }
-{
-    if place % 4 != 0 {
-        return None;
-    }
-    let word = image.get(place as usize / 4)?;
-    decode(*word)
-}
-
-/// The effect of the instruction at a place, and what comes next; None where no instruction stands there.
-fn step(image: &[u32], regs: &mut Regs, place: u32, stack: &mut Stack) -> Option<Next>
-    requires { length regs.old ≡ 32 }
-    ensures registers { length regs.new ≡ 32 }
-    ensures goes { (m : Machine) → StepsTo (Image image.now) (stack_machine stack.old regs.old place) m
-        → (result ≡ Some (At m.counter)) × (stack_machine stack.new regs.new m.counter ≡ m) }
-    ensures serves { Image image.now place operation.ecall → (result ≡ Some Service) × (regs.new ≡ regs.old) }
-{
-    let instr = fetch(image, place)?;
-    Some(effect(instr, regs, place, stack))
-}
-
 /// Runs the image from its start to the end service, with an account of so many bytes and with so many
 /// ticks, and gives the number in register 5 there.
-pub(crate) fn run(image: &[u32], stack: &mut Stack, account: u32, ticks: u32) -> i32
-    requires { (value : ℤ) × (steps : ℕ) × (steps < 2 ^ 30) × Ends image.now (start_machine stack.old account ticks) steps value }
-    ensures { (value : ℤ) (steps : ℕ) → Ends image.now (start_machine stack.old account ticks) steps value → result ≡ value }
+pub(crate) fn run(image: &Image, stack: &mut Stack, account: u32, ticks: u32) -> i32
+    requires { (value : ℤ) × (steps : ℕ) × (steps < 2 ^ 30) × Ends image.now.words (start_machine stack.old account ticks) steps value }
+    ensures { (value : ℤ) (steps : ℕ) → Ends image.now.words (start_machine stack.old account ticks) steps value → result ≡ value }
 {
-    let mut regs = first_regs(account, ticks);
-    let mut place = TABLE_START;
+    let mut hart = Hart {
+        regs: first_regs(account, ticks),
+        pc: TABLE_START,
+    };
     'run: for _ in 0..u32::MAX {
-        let Some(next) = step(image, &mut regs, place, stack) else {
-            unreachable!()
-        };
-        match next {
-            Next::At(next) => place = next,
-            Next::Service => {
-                let number = regs.get(31);
+        match step(&mut hart, image, stack) {
+            Halt::Going => {}
+            Halt::Service(number) => {
                 prove!(number == END_SERVICE);
-                return regs.get(5).cast_signed();
+                return hart.regs.get(5).cast_signed();
             }
-            Next::PageFault { .. } => unreachable!(),
-            Next::Fault { .. } => unreachable!(),
+            Halt::PageFault { .. } => unreachable!(),
+            Halt::Fault { .. } => unreachable!(),
         }
     }
     unreachable!()

@@ -16,6 +16,7 @@ use crate::command::{self, Command};
 use crate::first;
 use crate::hart::{self, Stack};
 use crate::verdict::{Refusal, Verdict};
+use cm_asm::Image;
 use cm_gen::make_first;
 use cm_text::{Memory, ReadEnd, Sink, Source, read_all, write_all};
 use std::alloc::Global;
@@ -101,9 +102,10 @@ fn compiled(alloc: Global, source: &[u8]) -> Result<Verdict, Memory>
     let Some(expression) = first::read(alloc, source)? else {
         return Ok(Verdict::Refused(0, Refusal::Syntax));
     };
-    let image = make_first(alloc, &expression, PAGE)?;
+    let words = make_first(alloc, &expression, PAGE)?;
+    let image = Image { words };
     let mut stack = Stack::new(alloc)?;
-    let value = hart::run(image.items(), &mut stack, ACCOUNT, TICKS);
+    let value = hart::run(&image, &mut stack, ACCOUNT, TICKS);
     Ok(Verdict::Value(value))
 }
 

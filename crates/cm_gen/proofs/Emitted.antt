@@ -2,7 +2,7 @@
 use Rattle.std.proofs.Common.{◌≡◌, ℕ, List, [], ◌∷◌, ◌++◌, ◌∙◌, append_assoc}
 use Rattle.cm_isa.specs.Formats.{Row}
 use Rattle.cm_isa.specs.Operation.{Operation}
-use Rattle.cm_gen.specs.Run.{AreWordsOf}
+use Rattle.cm_isa.specs.Places.{AreWordsOf}
 use Rattle.std.proofs.lemmas.Int.{to_z-of_z}
 
 pub ruleset emitted = (append_assoc, to_z-of_z)

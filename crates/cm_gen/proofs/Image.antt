@@ -8,7 +8,8 @@ use Rattle.cm_syntax.specs.declared.expr.Expr.{Expr}
 use Rattle.cm_syntax.specs.Expr.{operator_count, IsClosed}
 use Rattle.cm_gen.specs.Machine.{StandsAt, ComesTo}
 use Rattle.cm_gen.specs.Code.{first_code}
-use Rattle.cm_gen.specs.Run.{start_registers, Image, AreWordsOf, RunsTo}
+use Rattle.cm_isa.specs.Places.{AreWordsOf, Stands}
+use Rattle.cm_gen.specs.Run.{start_registers, RunsTo}
 use Rattle.std.specs.Int.{w32, cast_signed}
 use Rattle.cm_gen.proofs.WordLemmas as words
 use Rattle.cm_gen.proofs.Expressions.{value_fits}
@@ -16,7 +17,7 @@ use Rattle.cm_gen.proofs.Functions.{same_machine, same_registers}
 use Rattle.cm_gen.proofs.Program.{has_value, run_from}
 
 -- the instructions stand in an image that has their words from some place on
-words_stand : (front words : List ℕ) (is : List Operation) → AreWordsOf words is → StandsAt (Image (front ++ words)) (4 * length front) is
+words_stand : (front words : List ℕ) (is : List Operation) → AreWordsOf words is → StandsAt (Stands (front ++ words)) (4 * length front) is
 words_stand front [] [] h = tt
 words_stand front [] (i ∷ is) h = absurd h
 words_stand front (w ∷ ws) [] h = absurd h
@@ -25,9 +26,9 @@ words_stand front (w ∷ ws) (i ∷ is) h =
     let here : slice_index (front ++ w ∷ ws) (4 * length front / 4) ≡ w = ap (slice_index (front ++ w ∷ ws)) place ∙ get_or-append_seam front w ws 0 in
     let next : 4 * length (front ++ w ∷ []) ≡ 4 * length front + 4 = omega (arith, length-append front (w ∷ [])) in
     let rest = words_stand (front ++ w ∷ []) ws is h.1 in
-    let rest' = subst (λ l. StandsAt (Image l) (4 * length (front ++ w ∷ [])) is) (append_assoc front (w ∷ []) ws) rest in (
+    let rest' = subst (λ l. StandsAt (Stands l) (4 * length (front ++ w ∷ [])) is) (append_assoc front (w ∷ []) ws) rest in (
       (omega arith, omega (arith, length-append front (w ∷ ws)), subst (λ x. Row x i) (sym here) h.0),
-      subst (λ p. StandsAt (Image (front ++ w ∷ ws)) p is) next rest',
+      subst (λ p. StandsAt (Stands (front ++ w ∷ ws)) p is) next rest',
     )
 
 -- the code of an expression runs to its value
@@ -37,14 +38,14 @@ runs_to image e closed few are =
       value.0,
       value.1,
       λ account ticks start enough most some fits begins.
-          let ran = run_from (Image image) account ticks e value.0 start.words closed few value.1 enough most some fits begins.mapped (words_stand [] image (first_code e) are) in
+          let ran = run_from (Stands image) account ticks e value.0 start.words closed few value.1 enough most some fits begins.mapped (words_stand [] image (first_code e) are) in
           let same : start ≡ record { registers = start_registers account ticks; counter = 8; words = start.words } =
           same_machine start _ (same_registers start.registers (start_registers account ticks) begins.registers) begins.counter refl in (
             ran.0,
             ran.1,
             record {
               last = ran.2;
-              comes = subst (λ m. ComesTo (Image image) ran.0 m ran.2) (sym same) ran.3;
+              comes = subst (λ m. ComesTo (Stands image) ran.0 m ran.2) (sym same) ran.3;
               service = ran.4;
               number = ran.5;
               result = ap (cast_signed w32) ran.6 ∙ words.int-cast_unsigned value.0 (value_fits e value.0 closed value.1);

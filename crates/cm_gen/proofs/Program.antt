@@ -2,7 +2,7 @@
 use Rattle.std.proofs.Common.{◌≡◌, ℕ, ◌+◌, ◌-◌, ◌*◌, ◌%◌, ◌^◌, ◌<◌, ◌≤◌, List, [], ◌∷◌, ◌++◌, length, Option, Some, refl, sym, ap, ◌∙◌, subst, arith, length-append}
 use Rattle.std.specs.Prelude.{true, false, if◌then◌else◌, ℤ, pos, negsuc, ◌+ℤ◌, FitsSigned, IsSome, option_and_then}
 use Rattle.std.specs.Int.{w32, cast_unsigned}
-use Rattle.cm_isa.specs.Operation.{Operation}
+use Rattle.cm_isa.specs.Operation.{Operation, ecall}
 use Rattle.cm_isa.specs.Alu.{int, word, offset}
 use Rattle.cm_isa.specs.Effect.{follow}
 use Rattle.cm_syntax.specs.declared.expr.Op.{Op}
@@ -13,7 +13,7 @@ use Rattle.cm_syntax.specs.Shape.{Joined}
 use Rattle.cm_syntax.specs.Expr.{value_of, temporaries, operator_count, IsClosed}
 use Rattle.cm_syntax.specs.Word.{combined}
 use Rattle.cm_gen.specs.Machine.{Machine, Code, ComesTo, StandsAt, moved, with_register, with_word}
-use Rattle.cm_gen.specs.Operations.{lui, addi, add, sub, lw, sw, jal, jalr, bgeu, ecall}
+use Rattle.cm_gen.specs.Operations.{lui, addi, add, sub, lw, sw, jal, jalr, bgeu}
 use Rattle.cm_gen.specs.Code.{is_near, high_part, low_part, load_number, load_slot, store_slot, operate, evaluate, temporary, service, tick, take_account, make_frame, entry, leave, frame_bytes, first_code}
 use Rattle.cm_gen.specs.Run.{stack_top, start_registers}
 use Rattle.cm_gen.proofs.WordLemmas as words

@@ -4,7 +4,7 @@
 -- 8 frame pointer, 10 result, 31 service number. The frame pointer is the address just above the frame.
 use Rattle.std.specs.Prelude.{ℕ, ◌+◌, ◌*◌, ◌/◌, ℤ, pos, negsuc, neg_ℤ, ◌+ℤ◌, ◌-ℤ◌, int_le, Bool, ◌&&◌, if◌then◌else◌, List, [], ◌∷◌, ◌++◌}
 use Rattle.std.specs.Int.{int_rem_euclid}
-use Rattle.cm_isa.specs.Operation.{Operation}
+use Rattle.cm_isa.specs.Operation.{Operation, ecall}
 use Rattle.cm_syntax.specs.declared.expr.Op.{Op}
 use Rattle.cm_syntax.specs.declared.expr.Op.TheVariants.{Mul, Add, Sub}
 use Rattle.cm_syntax.specs.declared.expr.Expr.{Expr}
@@ -12,7 +12,7 @@ use Rattle.cm_syntax.specs.declared.expr.Expr.TheVariants.{Number, Scalar}
 use Rattle.cm_syntax.specs.Shape.{Joined}
 use Rattle.cm_syntax.specs.Expr.{temporaries}
 use Rattle.cm_syntax.specs.Word.{wrapped}
-use Rattle.cm_gen.specs.Operations.{lui, addi, add, sub, mul, lw, sw, jal, jalr, bne, bgeu, ecall}
+use Rattle.cm_gen.specs.Operations.{lui, addi, add, sub, mul, lw, sw, jal, jalr, bne, bgeu}
 
 -- ---- numbers in instructions
 

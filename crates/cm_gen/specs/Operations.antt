@@ -38,6 +38,3 @@ bne rs1 rs2 distance = record { kind = kinds.Bne; rd = 0; rs1 = rs1; rs2 = rs2; 
 
 abbrev pub bgeu : (rs1 rs2 : ℕ) → (distance : ℤ) → Operation
 bgeu rs1 rs2 distance = record { kind = kinds.Bgeu; rd = 0; rs1 = rs1; rs2 = rs2; imm = distance }
-
-abbrev pub ecall : Operation
-ecall = record { kind = kinds.Ecall; rd = 0; rs1 = 0; rs2 = 0; imm = pos 0 }

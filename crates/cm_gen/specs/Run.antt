@@ -1,12 +1,11 @@
 -- A run of an image: where it starts, and how it ends.
-use Rattle.std.specs.Prelude.{◌≡◌, ℕ, ◌-◌, ◌/◌, ◌%◌, ◌^◌, ◌<◌, ◌≤◌, ◌==◌, if◌then◌else◌, List, [], ◌∷◌, length, slice_index, ℤ, Some, IsSome}
+use Rattle.std.specs.Prelude.{◌≡◌, ℕ, ◌-◌, ◌%◌, ◌^◌, ◌<◌, ◌≤◌, ◌==◌, if◌then◌else◌, List, ℤ, Some, IsSome}
 use Rattle.std.specs.Int.{w32, cast_signed}
-use Rattle.cm_isa.specs.Formats.{Row}
-use Rattle.cm_isa.specs.Operation.{Operation}
+use Rattle.cm_isa.specs.Operation.{ecall}
+use Rattle.cm_isa.specs.Places.{Stands}
 use Rattle.cm_syntax.specs.declared.expr.Expr.{Expr}
 use Rattle.cm_syntax.specs.Expr.{value_of}
-use Rattle.cm_gen.specs.Machine.{Machine, Code, ComesTo}
-use Rattle.cm_gen.specs.Operations.{ecall}
+use Rattle.cm_gen.specs.Machine.{Machine, ComesTo}
 use Rattle.cm_gen.specs.Code.{frame_bytes}
 
 -- the address just above the stack, which grows downwards
@@ -27,21 +26,11 @@ pub record IsStart (account ticks : ℕ) (m : Machine) : Type 0 where
   pub counter : m.counter ≡ table_start
   pub mapped : (a : ℕ) → a % 4 ≡ 0 → stack_top - account ≤ a → a < stack_top → IsSome (m.words a)
 
--- the code of an image: at each place stands the instruction in whose row its word is
-abbrev pub Image : List ℕ → Code
-Image words place i = (place % 4 ≡ 0) × (place / 4 < length words) × Row (slice_index words (place / 4)) i
-
--- the words are those of the instructions, one for each
-abbrev pub AreWordsOf : List ℕ → List Operation → Type 0
-AreWordsOf [] [] = Unit {0}
-AreWordsOf (w ∷ ws) (i ∷ is) = Row w i × AreWordsOf ws is
-AreWordsOf _ _ = ⊥
-
 -- after so many steps the machine stands at the end service, and register 5 has the value as a signed number
 pub record Ends (words : List ℕ) (start : Machine) (steps : ℕ) (value : ℤ) : Type 0 where
   pub last : Machine
-  pub comes : ComesTo (Image words) steps start last
-  pub service : Image words last.counter ecall
+  pub comes : ComesTo (Stands words) steps start last
+  pub service : Stands words last.counter ecall
   pub number : last.registers 31 ≡ 0
   pub result : cast_signed w32 (last.registers 5) ≡ value
 

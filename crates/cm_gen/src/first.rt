@@ -4,7 +4,8 @@
 ghost use Rattle.std.specs.Prelude.{◌≡◌, ◌+◌, ◌*◌, ◌<◌, ◌≤◌, ◌^◌, [], ◌∷◌, ◌++◌, OnOk, IfOk, Contains};
 ghost use Rattle.cm_syntax.specs.Expr as expression;
 ghost use Rattle.cm_gen.specs.Code as pattern;
-ghost use Rattle.cm_gen.specs.Run.{AreWordsOf, RunsTo};
+ghost use Rattle.cm_isa.specs.Places.{AreWordsOf};
+ghost use Rattle.cm_gen.specs.Run.{RunsTo};
 
 use crate::instructions::{add, addi, jal, mul, sub};
 use crate::patterns::{entry, leave, load_number, load_slot, service, store_slot};

@@ -1,6 +1,7 @@
 //! The instructions of the code patterns, by the names of the assembler.
 ghost use Rattle.std.specs.Prelude.{◌≡◌, ◌<◌, ◌%◌, unsigned_abs};
 ghost use Rattle.cm_isa.specs.Bits.{IsSigned};
+ghost use Rattle.cm_isa.specs.Operation as instruction;
 ghost use Rattle.cm_gen.specs.Operations as code;
 
 use cm_isa::{Instr, Kind};
@@ -106,7 +107,7 @@ pub(crate) fn bgeu(rs1: u8, rs2: u8, distance: i32) -> Instr
 
 /// `ecall`.
 pub(crate) fn ecall() -> Instr
-    ensures { result ≡ code.ecall }
+    ensures { result ≡ instruction.ecall }
 {
     Instr::of(Kind::Ecall, 0, 0, 0, 0).unwrap()
 }

@@ -4,5 +4,6 @@ pub mod Bits
 pub mod Effect
 pub mod Formats
 pub mod Operation
+pub mod Places
 pub mod Registers
 pub mod Words

@@ -1,6 +1,6 @@
 use Rattle.std.proofs.Common.{◌≡◌, ◌+◌, ◌∷◌, [], ◌++◌, take, ap, sym, ◌∙◌, subst}
 use Rattle.std.proofs.lemmas.List.{take_more}
-use Rattle.cm_gen.specs.Run.{AreWordsOf}
+use Rattle.cm_isa.specs.Places.{AreWordsOf}
 use Rattle.cm_gen.proofs.Emitted.{AreWordsOf-push}
 use Rattle.cm_gen.proofs.first.assembled.Goals as goal
 
