@@ -1,8 +1,8 @@
 -- The stack as a map of words, and the registers at the start.
-use Rattle.std.proofs.Common.{◌≡◌, ℕ, zero, suc, ◌+◌, ◌-◌, ◌*◌, ◌/◌, ◌%◌, ◌<◌, ◌≤◌, List, length, Some, None, refl, sym, ap, ◌∙◌, subst, arith, ⊎_elim, eq-eqb}
+use Rattle.std.proofs.Common.{◌≡◌, ℕ, zero, suc, ◌+◌, ◌-◌, ◌*◌, ◌/◌, ◌%◌, ◌<◌, ◌≤◌, List, length, Some, refl, sym, ap, ◌∙◌, subst, arith, ⊎_elim, eq-eqb}
 use Rattle.std.proofs.lemmas.Bool.{cases_lt, le-ltb, lt-ltb, ltb-true, ltb-false}
 use Rattle.std.proofs.lemmas.List.{get_or-replicate, get_or_past, length-replicate}
-use Rattle.std.specs.Prelude.{Bool, true, false, nat_lt, if◌then◌else◌, ◌==◌, slice_index, replicate, IsTrue, ℤ, Option}
+use Rattle.std.specs.Prelude.{Bool, true, false, nat_lt, if◌then◌else◌, ◌==◌, slice_index, replicate, IsTrue, ℤ}
 use Rattle.cm_isa.specs.Registers.{put}
 use Rattle.cm_isa.specs.Effect.{MayAccess, outcome}
 use Rattle.cm_isa.specs.Operation.{Operation, ecall}
