@@ -1,6 +1,6 @@
 //! The listing of an image as text.
 ghost use Rattle.std.specs.Prelude.{◌≡◌, ◌<◌, ◌≤◌, ◌++◌, length, IfOk, OnOk};
-ghost use Rattle.cm_asm.specs.Listing.{hex, hex_digit, line, listing};
+ghost use Rattle.cm_asm.specs.Listing.{AreWords, hex, hex_digit, line, listing};
 
 use crate::image::Image;
 use cm_text::{Bytes, List, Memory};
@@ -10,7 +10,8 @@ use std::alloc::Global;
 /// Both numbers have eight hexadecimal digits in lower case. `Memory` is want of memory.
 pub fn list(alloc: Global, image: &Image) -> Result<Bytes, Memory>
     requires { length image.now.words ≤ 4194304 }
-    ensures { IfOk result (λ text. text ≡ listing image.now.words) }
+    ensures text { IfOk result (λ text. text ≡ listing image.now.words) }
+    ensures words { AreWords image.now.words }
 {
     let mut text = List::new(alloc);
     let mut address = 0;

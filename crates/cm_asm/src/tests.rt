@@ -23,6 +23,7 @@ fn listings(rt: HostRuntime) -> Result<(), Fail> {
     assert_eq!(rt; image.words.len(), 29);
     let text = list(alloc, &image)?;
     assert_eq!(rt; text.items(), PROGRAM);
+    one_image_per_listing();
     assert_eq!(rt; refused(alloc, b""), None);
     // An upper-case digit, an end inside a line, a gap in the addresses, and a byte after a line.
     assert_eq!(rt;
