@@ -1,57 +1,52 @@
 -- Chains of operands that are grouped to the left, seen from their left end, as they are read.
-use Rattle.std.proofs.Common.{◌≡◌, ℕ, Bool, true, false, List, ◌∷◌, ◌++◌, ℤ, refl, sym, ap, subst, ◌∙◌, arith}
+use Rattle.std.proofs.Common.{◌≡◌, ℕ, Bool, true, false, List, ◌∷◌, ℤ, refl, sym, ap, subst, ◌∙◌, arith, codes}
 use Rattle.cm_syntax.specs.declared.expr.Expr.{Expr}
-use Rattle.cm_syntax.specs.declared.expr.Expr.TheVariants.{Number, Scalar}
+use Rattle.cm_syntax.specs.declared.expr.Expr.TheVariants.{Number}
 use Rattle.cm_syntax.specs.declared.expr.Op.{Op}
 use Rattle.cm_syntax.specs.declared.expr.Op.TheVariants.{Mul, Add, Sub}
 use Rattle.cm_syntax.specs.Shape.{Joined}
-use Rattle.cilkm.specs.Scan.{StartsBlack, Stands, LiteralStands}
-use Rattle.cilkm.specs.First.{sign_of, is_additive, is_multiplicative, IsFactor, IsProduct, IsSum, DoesNotStand}
-use Rattle.cilkm.proofs.Tokens.{after_space-from_stands}
+use Rattle.cilkm.specs.Scan.{LiteralStands}
+use Rattle.cilkm.specs.First.{SignStands, is_additive, is_multiplicative, IsFactor, IsProduct, IsSum, DoesNotStand}
+use Rattle.cilkm.proofs.Tokens.{one_text}
 
--- no sign begins with white space
-pub black_sign : (op : Op) → StartsBlack (sign_of op)
-black_sign Mul = refl
-black_sign Add = refl
-black_sign Sub = refl
+-- equal lists have equal heads and equal tails
+pub heads : (m n : ℕ) (x y : List ℕ) → m ∷ x ≡ n ∷ y → (m ≡ n) × (x ≡ y)
+heads m n x y e = (cc, cc)
 
 -- two signs that stand at one place are one sign, with one rest
-pub same_sign : (a b : Op) (bytes x y : List ℕ) → Stands (sign_of a) bytes x → Stands (sign_of b) bytes y → (a ≡ b) × (x ≡ y)
-same_sign a b bytes x y s t =
-    signs a b (sym (after_space-from_stands (sign_of a) bytes x (black_sign a) s) ∙ after_space-from_stands (sign_of b) bytes y (black_sign b) t)
-  where
-    heads : (m n : ℕ) → m ∷ x ≡ n ∷ y → (m ≡ n) × (x ≡ y)
-    heads m n e = (cc, cc)
-
-    signs : (a b : Op) → sign_of a ++ x ≡ sign_of b ++ y → (a ≡ b) × (x ≡ y)
-    signs Mul Mul e = (refl, (heads _ _ e).1)
-    signs Add Add e = (refl, (heads _ _ e).1)
-    signs Sub Sub e = (refl, (heads _ _ e).1)
-    signs Mul Add e = absurd (omega (arith, (heads _ _ e).0))
-    signs Mul Sub e = absurd (omega (arith, (heads _ _ e).0))
-    signs Add Mul e = absurd (omega (arith, (heads _ _ e).0))
-    signs Add Sub e = absurd (omega (arith, (heads _ _ e).0))
-    signs Sub Mul e = absurd (omega (arith, (heads _ _ e).0))
-    signs Sub Add e = absurd (omega (arith, (heads _ _ e).0))
+pub same_sign : (a b : Op) (bytes x y : List ℕ) → SignStands a bytes x → SignStands b bytes y → (a ≡ b) × (x ≡ y)
+same_sign Mul Mul bytes x y s t = (refl, (heads _ _ x y (one_text (codes "*") (codes "*") bytes x y refl refl s t)).1)
+same_sign Mul Add bytes x y s t = absurd (omega (arith, (heads _ _ x y (one_text (codes "*") (codes "+") bytes x y refl refl s t)).0))
+same_sign Mul Sub bytes x y s t = absurd (omega (arith, (heads _ _ x y (one_text (codes "*") (codes "-") bytes x y refl refl s t)).0))
+same_sign Mul _ bytes x y s t = absurd t
+same_sign Add Mul bytes x y s t = absurd (omega (arith, (heads _ _ x y (one_text (codes "+") (codes "*") bytes x y refl refl s t)).0))
+same_sign Add Add bytes x y s t = (refl, (heads _ _ x y (one_text (codes "+") (codes "+") bytes x y refl refl s t)).1)
+same_sign Add Sub bytes x y s t = absurd (omega (arith, (heads _ _ x y (one_text (codes "+") (codes "-") bytes x y refl refl s t)).0))
+same_sign Add _ bytes x y s t = absurd t
+same_sign Sub Mul bytes x y s t = absurd (omega (arith, (heads _ _ x y (one_text (codes "-") (codes "*") bytes x y refl refl s t)).0))
+same_sign Sub Add bytes x y s t = absurd (omega (arith, (heads _ _ x y (one_text (codes "-") (codes "+") bytes x y refl refl s t)).0))
+same_sign Sub Sub bytes x y s t = (refl, (heads _ _ x y (one_text (codes "-") (codes "-") bytes x y refl refl s t)).1)
+same_sign Sub _ bytes x y s t = absurd t
+same_sign _ b bytes x y s t = absurd s
 
 -- From left, with rest still to be read, a sign and an operand at a time make the whole, and end is left.
 pub data Continues (level : Op → Bool) (Operand : Expr ℕ → List ℕ → List ℕ → Type 0) (whole : Expr ℕ) (end : List ℕ) : Expr ℕ → List ℕ → Type 0 where
   done : (left : Expr ℕ) (rest : List ℕ) → left ≡ whole → rest ≡ end → Continues level Operand whole end left rest
-  more : (op : Op) (left right : Expr ℕ) (rest behind next : List ℕ) → level op ≡ true → Stands (sign_of op) rest behind → Operand right behind next
+  more : (op : Op) (left right : Expr ℕ) (rest behind next : List ℕ) → level op ≡ true → SignStands op rest behind → Operand right behind next
       → Continues level Operand whole end (Joined op left right) next → Continues level Operand whole end left rest
 
 module _ (level : Op → Bool) (Operand : Expr ℕ → List ℕ → List ℕ → Type 0) where
   -- one operand more at the right end
-  pub extended : (op : Op) (whole right : Expr ℕ) (middle behind end : List ℕ) → level op ≡ true → Stands (sign_of op) middle behind → Operand right behind end
+  pub extended : (op : Op) (whole right : Expr ℕ) (middle behind end : List ℕ) → level op ≡ true → SignStands op middle behind → Operand right behind end
       → (left : Expr ℕ) (rest : List ℕ) → Continues level Operand whole middle left rest → Continues level Operand (Joined op whole right) end left rest
   extended op whole right middle behind end at stands operand left rest (done _ _ same same_rest) =
-      more op left right rest behind end at (subst (λ bytes. Stands (sign_of op) bytes behind) (sym same_rest) stands) operand
+      more op left right rest behind end at (subst (λ bytes. SignStands op bytes behind) (sym same_rest) stands) operand
       (done _ _ (ap (λ l. Joined op l right) same) refl)
   extended op whole right middle behind end at stands operand left rest (more o l r _ b n at' s' operand' c) =
       more o left r rest b n at' s' operand' (extended op whole right middle behind end at stands operand (Joined o left r) n c)
 
   -- where no sign of the level stands next, nothing is left to read
-  pub ended : (whole left : Expr ℕ) (end rest : List ℕ) → Continues level Operand whole end left rest → ((op : Op) → level op ≡ true → DoesNotStand (sign_of op) rest)
+  pub ended : (whole left : Expr ℕ) (end rest : List ℕ) → Continues level Operand whole end left rest → ((op : Op) → level op ≡ true → DoesNotStand op rest)
       → (left ≡ whole) × (rest ≡ end)
   ended whole left end rest (done _ _ same same_rest) none = (same, same_rest)
   ended whole left end rest (more o l r _ b n at s operand c) none = absurd (none o at b s)
@@ -64,9 +59,9 @@ module _ (level : Op → Bool) (Operand : Expr ℕ → List ℕ → List ℕ →
     pub then_on : Continues level Operand whole end (Joined op left right) next
 
   pub next_from_sign : (whole left : Expr ℕ) (end rest : List ℕ) → Continues level Operand whole end left rest → (op : Op) (behind : List ℕ)
-      → Stands (sign_of op) rest behind → DoesNotStand (sign_of op) end → IsNext whole left end op behind
+      → SignStands op rest behind → DoesNotStand op end → IsNext whole left end op behind
   next_from_sign whole left end rest (done _ _ same same_rest) op behind s none =
-      absurd (none behind (subst (λ bytes. Stands (sign_of op) bytes behind) same_rest s))
+      absurd (none behind (subst (λ bytes. SignStands op bytes behind) same_rest s))
   next_from_sign whole left end rest (more o l r _ b n at s' operand c) op behind s none =
       let one = same_sign o op rest b behind s' s in
       record {
@@ -78,9 +73,9 @@ module _ (level : Op → Bool) (Operand : Expr ℕ → List ℕ → List ℕ →
 
   -- a sign of another level doesn't stand where it doesn't stand at the end
   pub none_stands : (whole left : Expr ℕ) (end rest : List ℕ) → Continues level Operand whole end left rest → (op : Op) → level op ≡ false
-      → DoesNotStand (sign_of op) end → DoesNotStand (sign_of op) rest
+      → DoesNotStand op end → DoesNotStand op rest
   none_stands whole left end rest (done _ _ same same_rest) op other none behind s =
-      none behind (subst (λ bytes. Stands (sign_of op) bytes behind) same_rest s)
+      none behind (subst (λ bytes. SignStands op bytes behind) same_rest s)
   none_stands whole left end rest (more o l r _ b n at s' operand c) op other none behind s =
       let one = same_sign o op rest b behind s' s in
       cc (sym at ∙ ap level one.0 ∙ other)
@@ -94,16 +89,13 @@ pub record Begins (level : Op → Bool) (Operand : Expr ℕ → List ℕ → Lis
 
 pub product_begins : (whole : Expr ℕ) (bytes end : List ℕ) → IsProduct whole bytes end → Begins is_multiplicative IsFactor whole bytes end
 product_begins (Number n) bytes end h = record { first = Number n; next = end; operand = h; then_on = done _ _ refl refl }
-product_begins (Scalar mark) bytes end h = absurd h
 product_begins (Joined Mul left right) bytes end h =
     let b = product_begins left bytes h.at_sign h.left in
     record { first = b.first; next = b.next; operand = b.operand; then_on = extended is_multiplicative IsFactor Mul left right h.at_sign h.after_sign end refl h.sign_stands h.right b.first b.next b.then_on }
-product_begins (Joined Add left right) bytes end h = absurd h
-product_begins (Joined Sub left right) bytes end h = absurd h
+product_begins _ bytes end h = absurd h
 
 pub sum_begins : (whole : Expr ℕ) (bytes end : List ℕ) → IsSum whole bytes end → Begins is_additive IsProduct whole bytes end
 sum_begins (Number n) bytes end h = record { first = Number n; next = end; operand = h; then_on = done _ _ refl refl }
-sum_begins (Scalar mark) bytes end h = absurd h
 sum_begins (Joined Mul left right) bytes end h = record { first = Joined Mul left right; next = end; operand = h; then_on = done _ _ refl refl }
 sum_begins (Joined Add left right) bytes end h =
     let b = sum_begins left bytes h.at_sign h.left in
@@ -111,24 +103,24 @@ sum_begins (Joined Add left right) bytes end h =
 sum_begins (Joined Sub left right) bytes end h =
     let b = sum_begins left bytes h.at_sign h.left in
     record { first = b.first; next = b.next; operand = b.operand; then_on = extended is_additive IsProduct Sub left right h.at_sign h.after_sign end refl h.sign_stands h.right b.first b.next b.then_on }
+sum_begins _ bytes end h = absurd h
 
 -- a factor is a literal
 pub factor_literal : (whole : Expr ℕ) (bytes end : List ℕ) → IsFactor whole bytes end → (n : ℤ) × (whole ≡ Number n) × LiteralStands n bytes end
 factor_literal (Number n) bytes end h = (n, refl, h)
-factor_literal (Scalar mark) bytes end h = absurd h
-factor_literal (Joined op left right) bytes end h = absurd h
+factor_literal _ bytes end h = absurd h
 
 -- where neither `+` nor `-` stands, no additive sign does
-pub no_additive : (bytes : List ℕ) → DoesNotStand (sign_of Add) bytes → DoesNotStand (sign_of Sub) bytes
-    → (op : Op) → is_additive op ≡ true → DoesNotStand (sign_of op) bytes
-no_additive bytes plus minus Mul at = absurd (cc at)
+pub no_additive : (bytes : List ℕ) → DoesNotStand Add bytes → DoesNotStand Sub bytes
+    → (op : Op) → is_additive op ≡ true → DoesNotStand op bytes
 no_additive bytes plus minus Add at = plus
 no_additive bytes plus minus Sub at = minus
+no_additive bytes plus minus _ at = absurd (cc at)
 
-pub no_multiplicative : (bytes : List ℕ) → DoesNotStand (sign_of Mul) bytes → (op : Op) → is_multiplicative op ≡ true → DoesNotStand (sign_of op) bytes
+-- where no `*` stands, no multiplicative sign does
+pub no_multiplicative : (bytes : List ℕ) → DoesNotStand Mul bytes → (op : Op) → is_multiplicative op ≡ true → DoesNotStand op bytes
 no_multiplicative bytes star Mul at = star
-no_multiplicative bytes star Add at = absurd (cc at)
-no_multiplicative bytes star Sub at = absurd (cc at)
+no_multiplicative bytes star _ at = absurd (cc at)
 
 -- what is left to read, at an equal place
 pub continues_at : (level : Op → Bool) (Operand : Expr ℕ → List ℕ → List ℕ → Type 0) (whole left first : Expr ℕ) (end rest next : List ℕ)
@@ -139,19 +131,16 @@ continues_at level Operand whole left first end rest next c same same_rest =
 -- a factor is a product, and a product is a sum
 pub product_from_factor : (whole : Expr ℕ) (bytes end : List ℕ) → IsFactor whole bytes end → IsProduct whole bytes end
 product_from_factor (Number n) bytes end h = h
-product_from_factor (Scalar mark) bytes end h = absurd h
-product_from_factor (Joined op left right) bytes end h = absurd h
+product_from_factor _ bytes end h = absurd h
 
 pub sum_from_product : (whole : Expr ℕ) (bytes end : List ℕ) → IsProduct whole bytes end → IsSum whole bytes end
 sum_from_product (Number n) bytes end h = h
-sum_from_product (Scalar mark) bytes end h = absurd h
 sum_from_product (Joined Mul left right) bytes end h = h
-sum_from_product (Joined Add left right) bytes end h = absurd h
-sum_from_product (Joined Sub left right) bytes end h = absurd h
+sum_from_product _ bytes end h = absurd h
 
 -- one more operand of a sum
-pub sum_more : (op : Op) (left right : Expr ℕ) (bytes before behind end : List ℕ) → is_additive op ≡ true → IsSum left bytes before → Stands (sign_of op) before behind
+pub sum_more : (op : Op) (left right : Expr ℕ) (bytes before behind end : List ℕ) → is_additive op ≡ true → IsSum left bytes before → SignStands op before behind
     → IsProduct right behind end → IsSum (Joined op left right) bytes end
-sum_more Mul left right bytes before behind end at l s r = absurd (cc at)
 sum_more Add left right bytes before behind end at l s r = record { at_sign = before; after_sign = behind; left = l; sign_stands = s; right = r }
 sum_more Sub left right bytes before behind end at l s r = record { at_sign = before; after_sign = behind; left = l; sign_stands = s; right = r }
+sum_more _ left right bytes before behind end at l s r = absurd (cc at)

@@ -1,5 +1,5 @@
 -- What follows from the first form: its signs are the operators, its literals are words, and it has one tree.
-use Rattle.std.proofs.Common.{◌≡◌, ℕ, ◌+◌, ◌≤◌, false, cond, List, [], ◌∷◌, ◌++◌, ℤ, pos, refl, sym, ap, subst, ◌∙◌, arith, FitsSigned, w32, ◌≤ℤ◌, codes}
+use Rattle.std.proofs.Common.{◌≡◌, ℕ, ◌+◌, ◌≤◌, false, cond, List, [], ◌∷◌, ◌++◌, ℤ, pos, refl, sym, ap, subst, arith, FitsSigned, w32, ◌≤ℤ◌, codes}
 use Rattle.std.specs.List.{count_by}
 use Rattle.std.specs.Str.Parse.{AllDigits}
 use Rattle.std.proofs.lemmas.Bool.Decides.{nat_tests}
@@ -7,15 +7,15 @@ use Rattle.std.proofs.lemmas.Int.{ints}
 use Rattle.std.proofs.lemmas.List.Sums.{sum_by-append}
 use Rattle.std.proofs.lemmas.Str.Parse.{digit_from_value}
 use Rattle.cm_syntax.specs.declared.expr.Expr.{Expr}
-use Rattle.cm_syntax.specs.declared.expr.Expr.TheVariants.{Number, Scalar}
+use Rattle.cm_syntax.specs.declared.expr.Expr.TheVariants.{Number}
 use Rattle.cm_syntax.specs.declared.expr.Op.{Op}
 use Rattle.cm_syntax.specs.declared.expr.Op.TheVariants.{Mul, Add, Sub}
 use Rattle.cm_syntax.specs.Shape.{Joined}
 use Rattle.cm_syntax.specs.Expr.{operator_count, IsClosed}
 use Rattle.cilkm.specs.Scan.{IsWhite, Stands, LiteralStands}
-use Rattle.cilkm.specs.First.{sign_of, is_sign, IsFactor, IsProduct, IsSum, Opens, Closes, DoesNotStand}
-use Rattle.cilkm.proofs.Tokens.{after_space-from_stands}
-use Rattle.cilkm.proofs.Chains.{black_sign}
+use Rattle.cilkm.specs.First.{SignStands, is_sign, IsFactor, IsProduct, IsSum, Opens, Closes, DoesNotStand}
+use Rattle.cilkm.proofs.Tokens.{one_text}
+use Rattle.cilkm.proofs.Chains.{heads}
 
 -- the signs among bytes
 pub signs-append : (xs ys : List ℕ) → count_by is_sign (xs ++ ys) ≡ count_by is_sign xs + count_by is_sign ys
@@ -42,32 +42,30 @@ signs_stands token bytes rest s =
 signs_literal : (n : ℤ) (bytes rest : List ℕ) → LiteralStands n bytes rest → count_by is_sign bytes ≡ count_by is_sign rest
 signs_literal n bytes rest s = omega (arith, signs_stands s.digits bytes rest s.stands.stands, signs_digits s.digits s.literal.numeral.1)
 
-signs_sign : (op : Op) (bytes rest : List ℕ) → Stands (sign_of op) bytes rest → count_by is_sign bytes ≡ 1 + count_by is_sign rest
-signs_sign Mul bytes rest s = signs_stands (sign_of Mul) bytes rest s
-signs_sign Add bytes rest s = signs_stands (sign_of Add) bytes rest s
-signs_sign Sub bytes rest s = signs_stands (sign_of Sub) bytes rest s
+signs_sign : (op : Op) (bytes rest : List ℕ) → SignStands op bytes rest → count_by is_sign bytes ≡ 1 + count_by is_sign rest
+signs_sign Mul bytes rest s = signs_stands (codes "*") bytes rest s
+signs_sign Add bytes rest s = signs_stands (codes "+") bytes rest s
+signs_sign Sub bytes rest s = signs_stands (codes "-") bytes rest s
+signs_sign _ bytes rest s = absurd s
 
 signs_factor : (e : Expr ℕ) (bytes rest : List ℕ) → IsFactor e bytes rest → count_by is_sign bytes ≡ operator_count e + count_by is_sign rest
 signs_factor (Number n) bytes rest h = omega (arith, signs_literal n bytes rest h)
-signs_factor (Scalar mark) bytes rest h = absurd h
-signs_factor (Joined op left right) bytes rest h = absurd h
+signs_factor _ bytes rest h = absurd h
 
 signs_product : (e : Expr ℕ) (bytes rest : List ℕ) → IsProduct e bytes rest → count_by is_sign bytes ≡ operator_count e + count_by is_sign rest
 signs_product (Number n) bytes rest h = omega (arith, signs_literal n bytes rest h)
-signs_product (Scalar mark) bytes rest h = absurd h
 signs_product (Joined Mul left right) bytes rest h =
     omega (arith, signs_product left bytes h.at_sign h.left, signs_sign Mul h.at_sign h.after_sign h.sign_stands, signs_factor right h.after_sign rest h.right)
-signs_product (Joined Add left right) bytes rest h = absurd h
-signs_product (Joined Sub left right) bytes rest h = absurd h
+signs_product _ bytes rest h = absurd h
 
 signs_sum : (e : Expr ℕ) (bytes rest : List ℕ) → IsSum e bytes rest → count_by is_sign bytes ≡ operator_count e + count_by is_sign rest
 signs_sum (Number n) bytes rest h = omega (arith, signs_literal n bytes rest h)
-signs_sum (Scalar mark) bytes rest h = absurd h
 signs_sum (Joined Mul left right) bytes rest h = signs_product (Joined Mul left right) bytes rest h
 signs_sum (Joined Add left right) bytes rest h =
     omega (arith, signs_sum left bytes h.at_sign h.left, signs_sign Add h.at_sign h.after_sign h.sign_stands, signs_product right h.after_sign rest h.right)
 signs_sum (Joined Sub left right) bytes rest h =
     omega (arith, signs_sum left bytes h.at_sign h.left, signs_sign Sub h.at_sign h.after_sign h.sign_stands, signs_product right h.after_sign rest h.right)
+signs_sum _ bytes rest h = absurd h
 
 -- the signs of a source of the first form are the operators of its expression
 pub signs_form : (e : Expr ℕ) (bytes text rest : List ℕ) → Opens bytes text → IsSum e text rest → Closes rest → count_by is_sign bytes ≡ operator_count e
@@ -87,16 +85,11 @@ signs_form e bytes text rest o h c =
     )
 
 -- no sign stands where the source closes
-pub quiet_at_close : (rest : List ℕ) → Closes rest → (op : Op) → DoesNotStand (sign_of op) rest
-quiet_at_close rest c op behind s = semicolon op (sym (after_space-from_stands (codes ";") rest c.after_semicolon refl c.semicolon_stands) ∙ after_space-from_stands (sign_of op) rest behind (black_sign op) s)
-  where
-    heads : (m n : ℕ) (x y : List ℕ) → m ∷ x ≡ n ∷ y → m ≡ n
-    heads m n x y e = cc
-
-    semicolon : (op : Op) → codes ";" ++ c.after_semicolon ≡ sign_of op ++ behind → ⊥
-    semicolon Mul e = omega (arith, heads _ _ _ _ e)
-    semicolon Add e = omega (arith, heads _ _ _ _ e)
-    semicolon Sub e = omega (arith, heads _ _ _ _ e)
+pub quiet_at_close : (rest : List ℕ) → Closes rest → (op : Op) → DoesNotStand op rest
+quiet_at_close rest c Mul behind s = omega (arith, (heads _ _ _ _ (one_text (codes ";") (codes "*") rest c.after_semicolon behind refl refl c.semicolon_stands s)).0)
+quiet_at_close rest c Add behind s = omega (arith, (heads _ _ _ _ (one_text (codes ";") (codes "+") rest c.after_semicolon behind refl refl c.semicolon_stands s)).0)
+quiet_at_close rest c Sub behind s = omega (arith, (heads _ _ _ _ (one_text (codes ";") (codes "-") rest c.after_semicolon behind refl refl c.semicolon_stands s)).0)
+quiet_at_close rest c _ behind s = s
 
 -- the literals are words that aren't negative, and there is nothing else
 closed_literal : (n : ℤ) (bytes rest : List ℕ) → LiteralStands n bytes rest → IsClosed (Number n)
@@ -107,19 +100,16 @@ closed_literal n bytes rest s = subst (λ z. FitsSigned w32 z × (pos 0 ≤ℤ z
 
 closed_factor : (e : Expr ℕ) (bytes rest : List ℕ) → IsFactor e bytes rest → IsClosed e
 closed_factor (Number n) bytes rest h = closed_literal n bytes rest h
-closed_factor (Scalar mark) bytes rest h = absurd h
-closed_factor (Joined op left right) bytes rest h = absurd h
+closed_factor _ bytes rest h = absurd h
 
 closed_product : (e : Expr ℕ) (bytes rest : List ℕ) → IsProduct e bytes rest → IsClosed e
 closed_product (Number n) bytes rest h = closed_literal n bytes rest h
-closed_product (Scalar mark) bytes rest h = absurd h
-closed_product (Joined Mul left right) bytes rest h = (closed_product left bytes h.at_sign h.left, closed_factor right h.after_sign rest h.right)
-closed_product (Joined Add left right) bytes rest h = absurd h
-closed_product (Joined Sub left right) bytes rest h = absurd h
+closed_product (Joined Mul left right) bytes rest h = (closed_product left bytes h.at_sign h.left, refl, closed_factor right h.after_sign rest h.right)
+closed_product _ bytes rest h = absurd h
 
 pub closed_sum : (e : Expr ℕ) (bytes rest : List ℕ) → IsSum e bytes rest → IsClosed e
 closed_sum (Number n) bytes rest h = closed_literal n bytes rest h
-closed_sum (Scalar mark) bytes rest h = absurd h
 closed_sum (Joined Mul left right) bytes rest h = closed_product (Joined Mul left right) bytes rest h
-closed_sum (Joined Add left right) bytes rest h = (closed_sum left bytes h.at_sign h.left, closed_product right h.after_sign rest h.right)
-closed_sum (Joined Sub left right) bytes rest h = (closed_sum left bytes h.at_sign h.left, closed_product right h.after_sign rest h.right)
+closed_sum (Joined Add left right) bytes rest h = (closed_sum left bytes h.at_sign h.left, refl, closed_product right h.after_sign rest h.right)
+closed_sum (Joined Sub left right) bytes rest h = (closed_sum left bytes h.at_sign h.left, refl, closed_product right h.after_sign rest h.right)
+closed_sum _ bytes rest h = absurd h

@@ -6,7 +6,7 @@ use Rattle.cm_syntax.specs.declared.expr.Op.{Op}
 use Rattle.cm_syntax.specs.declared.expr.Op.TheVariants.{Mul}
 use Rattle.cm_syntax.specs.Shape.{Joined}
 use Rattle.cilkm.specs.Scan.{is_space, after, StartsBlack, Stands, LiteralStands}
-use Rattle.cilkm.specs.First.{sign_of, is_additive, is_multiplicative, IsFactor, IsProduct, IsSum, Opens, IsFirstForm, DoesNotStand}
+use Rattle.cilkm.specs.First.{SignStands, is_additive, is_multiplicative, IsFactor, IsProduct, IsSum, Opens, IsFirstForm, DoesNotStand}
 use Rattle.cilkm.proofs.Tokens.{after_space-from_stands, front_from_literal, same_rest}
 use Rattle.cilkm.proofs.Chains.{Continues, done, more, same_sign, none_stands, factor_literal, product_begins, sum_begins, no_multiplicative}
 use Rattle.cilkm.proofs.Form.{quiet_at_close}
@@ -42,20 +42,20 @@ factor_once a b bytes x y s t =
 module _ (level : Op → Bool) (Operand : Expr ℕ → List ℕ → List ℕ → Type 0) (Quiet : List ℕ → Type 0)
     (keeps : (whole left : Expr ℕ) (end rest : List ℕ) → Continues level Operand whole end left rest → Quiet end → Quiet rest)
     (once : (a b : Expr ℕ) (bytes x y : List ℕ) → Operand a bytes x → Operand b bytes y → Quiet x → Quiet y → (a ≡ b) × (x ≡ y)) where
-  chain_once : (a b : Expr ℕ) (x y : List ℕ) → Quiet x → Quiet y → ((op : Op) → level op ≡ true → DoesNotStand (sign_of op) x) → ((op : Op) → level op ≡ true → DoesNotStand (sign_of op) y)
+  chain_once : (a b : Expr ℕ) (x y : List ℕ) → Quiet x → Quiet y → ((op : Op) → level op ≡ true → DoesNotStand op x) → ((op : Op) → level op ≡ true → DoesNotStand op y)
       → (left : Expr ℕ) (rest : List ℕ) → Continues level Operand a x left rest → (also : Expr ℕ) (place : List ℕ) → Continues level Operand b y also place
       → left ≡ also → rest ≡ place → (a ≡ b) × (x ≡ y)
   chain_once a b x y qx qy nx ny left rest (done _ _ e f) also place (done _ _ g h) same same_place = (sym e ∙ same ∙ g, sym f ∙ same_place ∙ h)
   chain_once a b x y qx qy nx ny left rest (done _ _ e f) also place (more op _ r _ behind next at s operand c) same same_place =
-      absurd (nx op at behind (subst (λ bytes. Stands (sign_of op) bytes behind) (sym same_place ∙ f) s))
+      absurd (nx op at behind (subst (λ bytes. SignStands op bytes behind) (sym same_place ∙ f) s))
   chain_once a b x y qx qy nx ny left rest (more op _ r _ behind next at s operand c) also place (done _ _ g h) same same_place =
-      absurd (ny op at behind (subst (λ bytes. Stands (sign_of op) bytes behind) (same_place ∙ h) s))
+      absurd (ny op at behind (subst (λ bytes. SignStands op bytes behind) (same_place ∙ h) s))
   chain_once a b x y qx qy nx ny left rest (more op _ r _ behind next at s operand c) also place (more op' _ r' _ behind' next' at' s' operand' c') same same_place =
-      let sign = same_sign op op' place behind behind' (subst (λ bytes. Stands (sign_of op) bytes behind) same_place s) s' in
+      let sign = same_sign op op' place behind behind' (subst (λ bytes. SignStands op bytes behind) same_place s) s' in
       let one = once r r' behind' next next' (subst (λ bytes. Operand r bytes next) sign.1 operand) operand' (keeps a _ x next c qx) (keeps b _ y next' c' qy) in
       chain_once a b x y qx qy nx ny (Joined op left r) next c (Joined op' also r') next' c' (cc (sign.0, same, one.0)) one.1
 
-product_once : (a b : Expr ℕ) (bytes x y : List ℕ) → IsProduct a bytes x → IsProduct b bytes y → DoesNotStand (sign_of Mul) x → DoesNotStand (sign_of Mul) y → (a ≡ b) × (x ≡ y)
+product_once : (a b : Expr ℕ) (bytes x y : List ℕ) → IsProduct a bytes x → IsProduct b bytes y → DoesNotStand Mul x → DoesNotStand Mul y → (a ≡ b) × (x ≡ y)
 product_once a b bytes x y s t qx qy =
     let m = product_begins a bytes x s in
     let n = product_begins b bytes y t in
@@ -63,14 +63,14 @@ product_once a b bytes x y s t qx qy =
     chain_once is_multiplicative IsFactor (λ _. Unit {0}) (λ _ _ _ _ _ _. tt) (λ a b bytes x y s t _ _. factor_once a b bytes x y s t) a b x y tt tt
     (no_multiplicative x qx) (no_multiplicative y qy) m.first m.next m.then_on n.first n.next n.then_on one.0 one.1
 
-sum_once : (a b : Expr ℕ) (bytes x y : List ℕ) → IsSum a bytes x → IsSum b bytes y → ((op : Op) → DoesNotStand (sign_of op) x) → ((op : Op) → DoesNotStand (sign_of op) y) → (a ≡ b) × (x ≡ y)
+sum_once : (a b : Expr ℕ) (bytes x y : List ℕ) → IsSum a bytes x → IsSum b bytes y → ((op : Op) → DoesNotStand op x) → ((op : Op) → DoesNotStand op y) → (a ≡ b) × (x ≡ y)
 sum_once a b bytes x y s t qx qy =
     let m = sum_begins a bytes x s in
     let n = sum_begins b bytes y t in
-    let keeps : (whole left : Expr ℕ) (end rest : List ℕ) → Continues is_additive IsProduct whole end left rest → DoesNotStand (sign_of Mul) end → DoesNotStand (sign_of Mul) rest
+    let keeps : (whole left : Expr ℕ) (end rest : List ℕ) → Continues is_additive IsProduct whole end left rest → DoesNotStand Mul end → DoesNotStand Mul rest
     = λ whole left end rest c quiet. none_stands is_additive IsProduct whole left end rest c Mul refl quiet in
     let one = product_once m.first n.first bytes m.next n.next m.operand n.operand (keeps a _ x _ m.then_on (qx Mul)) (keeps b _ y _ n.then_on (qy Mul)) in
-    chain_once is_additive IsProduct (DoesNotStand (sign_of Mul)) keeps product_once a b x y (qx Mul) (qy Mul)
+    chain_once is_additive IsProduct (DoesNotStand Mul) keeps product_once a b x y (qx Mul) (qy Mul)
     (λ op _. qx op) (λ op _. qy op) m.first m.next m.then_on n.first n.next n.then_on one.0 one.1
 
 pub one_form : (bytes : List ℕ) (a b : Expr ℕ) → IsFirstForm bytes a → IsFirstForm bytes b → a ≡ b

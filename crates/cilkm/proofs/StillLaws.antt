@@ -3,7 +3,7 @@ use Rattle.std.proofs.Common.{◌≡◌, ℕ, ◌<◌, ◌≤◌, ◌^◌, List,
 use Rattle.std.specs.Prelude.{ℤ, ◌⊎◌, IfSome, Contains}
 use Rattle.cm_text.specs.Counts.{Rose}
 use Rattle.cm_syntax.specs.declared.expr.Expr.{Expr}
-use Rattle.cm_syntax.specs.Expr.{value_of, operator_count}
+use Rattle.cm_syntax.specs.Expr.{value_of, operator_count, IsClosed}
 use Rattle.cm_gen.specs.Code.{frame_bytes}
 use Rattle.cm_gen.specs.Run.{Ends, RunsTo}
 use Rattle.cm_gen.proofs.Program.{few_temporaries}
@@ -19,10 +19,10 @@ use Rattle.cilkm.proofs.HartLaws.{stack_start}
 use Rattle.cilkm.proofs.Once.{one_form}
 
 -- a program that runs to a value does so from the start that the settings give
-pub runs_from_start : (image : List ℕ) (e : Expr ℕ) (stack : List ℕ) → length stack ≡ 65536 → operator_count e ≤ 64 → RunsTo image e
+pub runs_from_start : (image : List ℕ) (e : Expr ℕ) (stack : List ℕ) → length stack ≡ 65536 → IsClosed e → operator_count e ≤ 64 → RunsTo image e
     → (value : ℤ) × (value_of e ≡ Some value) × (steps : ℕ) × (steps < 2 ^ 30) × Ends image (start_machine stack 262144 10000000) steps value
-runs_from_start image e stack size few runs =
-    let enough : frame_bytes e ≤ 262144 = omega (arith, few_temporaries e 0) in
+runs_from_start image e stack size closed few runs =
+    let enough : frame_bytes e ≤ 262144 = omega (arith, few_temporaries e 0 closed) in
     let ran = runs.2 262144 10000000 (start_machine stack 262144 10000000) enough (omega arith) (omega arith) (omega arith)
     (stack_start stack 262144 10000000 (omega arith) (omega arith)) in
     (runs.0, runs.1, ran.0, ran.1, ran.2)

@@ -137,6 +137,10 @@ pub same_rest : (first a b : List ℕ) → first ++ a ≡ first ++ b → a ≡ b
 same_rest [] a b e = e
 same_rest (f ∷ first) a b e = same_rest first a b (let e' : f ∷ (first ++ a) ≡ f ∷ (first ++ b) = e in cc)
 
+-- two tokens that stand at one place begin one text
+pub one_text : (token other bytes x y : List ℕ) → StartsBlack token → StartsBlack other → Stands token bytes x → Stands other bytes y → token ++ x ≡ other ++ y
+one_text token other bytes x y black too s t = sym (after_space-from_stands token bytes x black s) ∙ after_space-from_stands other bytes y too t
+
 -- what `strip_prefix` gives of the bytes after white space
 pub stripped_found : (token bytes text : List ℕ) (r : Option (Bor (List ℕ))) → text ≡ after is_space bytes
     → MatchOption r ((rest : List ℕ) → text ≢ token ++ rest) (λ x. text ≡ token ++ x.now) → IfSome r (λ x. Stands token bytes x.now)

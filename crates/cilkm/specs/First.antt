@@ -1,60 +1,57 @@
 -- The first form of source text: `int main() { return E; }`, where E joins literals by `+`, `-` and `*`.
 use Rattle.std.specs.Prelude.{ℕ, ◌≤◌, List, length, Bool, true, false, ◌==◌, ◌||◌, codes}
 use Rattle.cm_syntax.specs.declared.expr.Expr.{Expr}
-use Rattle.cm_syntax.specs.declared.expr.Expr.TheVariants.{Number, Scalar}
+use Rattle.cm_syntax.specs.declared.expr.Expr.TheVariants.{Number}
 use Rattle.cm_syntax.specs.declared.expr.Op.{Op}
 use Rattle.cm_syntax.specs.declared.expr.Op.TheVariants.{Mul, Add, Sub}
 use Rattle.cm_syntax.specs.Shape.{Joined}
 use Rattle.cm_syntax.specs.Expr.{operator_count}
 use Rattle.cilkm.specs.Scan.{IsWhite, Stands, StandsApart, LiteralStands}
 
--- the sign of an operator
-abbrev pub sign_of : Op → List ℕ
-sign_of Mul = codes "*"
-sign_of Add = codes "+"
-sign_of Sub = codes "-"
+-- The sign of the operator stands next, and rest follows. An operator that the form doesn't have stands nowhere.
+abbrev pub SignStands : Op → List ℕ → List ℕ → Type 0
+SignStands Mul bytes rest = Stands (codes "*") bytes rest
+SignStands Add bytes rest = Stands (codes "+") bytes rest
+SignStands Sub bytes rest = Stands (codes "-") bytes rest
+SignStands _ bytes rest = ⊥
 
 -- `+` and `-`
 abbrev pub is_additive : Op → Bool
-is_additive Mul = false
 is_additive Add = true
 is_additive Sub = true
+is_additive _ = false
 
 -- `*`
 abbrev pub is_multiplicative : Op → Bool
 is_multiplicative Mul = true
-is_multiplicative Add = false
-is_multiplicative Sub = false
+is_multiplicative _ = false
 
--- A left operand stands next, then the sign, then a right operand, and rest follows.
-pub record Joins (Left : List ℕ → List ℕ → Type 0) (sign : List ℕ) (Right : List ℕ → List ℕ → Type 0) (bytes rest : List ℕ) : Type 0 where
+-- A left operand stands next, then the operator's sign, then a right operand, and rest follows.
+pub record Joins (Left : List ℕ → List ℕ → Type 0) (op : Op) (Right : List ℕ → List ℕ → Type 0) (bytes rest : List ℕ) : Type 0 where
   pub at_sign : List ℕ
   pub after_sign : List ℕ
   pub left : Left bytes at_sign
-  pub sign_stands : Stands sign at_sign after_sign
+  pub sign_stands : SignStands op at_sign after_sign
   pub right : Right after_sign rest
 
 -- The expression is a literal, which stands next, and rest follows.
 abbrev pub IsFactor : Expr ℕ → List ℕ → List ℕ → Type 0
 IsFactor (Number n) bytes rest = LiteralStands n bytes rest
-IsFactor (Scalar mark) bytes rest = ⊥
-IsFactor (Joined op left right) bytes rest = ⊥
+IsFactor _ bytes rest = ⊥
 
 -- The expression is a literal, or a product and a literal with `*` between them: it stands next, and rest follows.
 abbrev pub IsProduct : Expr ℕ → List ℕ → List ℕ → Type 0
 IsProduct (Number n) bytes rest = LiteralStands n bytes rest
-IsProduct (Scalar mark) bytes rest = ⊥
-IsProduct (Joined Mul left right) bytes rest = Joins (IsProduct left) (sign_of Mul) (IsFactor right) bytes rest
-IsProduct (Joined Add left right) bytes rest = ⊥
-IsProduct (Joined Sub left right) bytes rest = ⊥
+IsProduct (Joined Mul left right) bytes rest = Joins (IsProduct left) Mul (IsFactor right) bytes rest
+IsProduct _ bytes rest = ⊥
 
 -- The expression is a product, or a sum and a product with `+` or `-` between them: it stands next, and rest follows.
 abbrev pub IsSum : Expr ℕ → List ℕ → List ℕ → Type 0
 IsSum (Number n) bytes rest = IsProduct (Number n) bytes rest
-IsSum (Scalar mark) bytes rest = ⊥
 IsSum (Joined Mul left right) bytes rest = IsProduct (Joined Mul left right) bytes rest
-IsSum (Joined Add left right) bytes rest = Joins (IsSum left) (sign_of Add) (IsProduct right) bytes rest
-IsSum (Joined Sub left right) bytes rest = Joins (IsSum left) (sign_of Sub) (IsProduct right) bytes rest
+IsSum (Joined Add left right) bytes rest = Joins (IsSum left) Add (IsProduct right) bytes rest
+IsSum (Joined Sub left right) bytes rest = Joins (IsSum left) Sub (IsProduct right) bytes rest
+IsSum _ bytes rest = ⊥
 
 -- `int main() { return` stands at the front, and rest follows.
 pub record Opens (bytes rest : List ℕ) : Type 0 where
@@ -92,6 +89,6 @@ pub record IsFirstForm (bytes : List ℕ) (expression : Expr ℕ) : Type 0 where
 abbrev pub is_sign : ℕ → Bool
 is_sign byte = byte == 42 || byte == 43 || byte == 45
 
--- The token doesn't stand next.
-abbrev pub DoesNotStand : List ℕ → List ℕ → Type 0
-DoesNotStand token bytes = (rest : List ℕ) → Stands token bytes rest → ⊥
+-- The sign of the operator doesn't stand next.
+abbrev pub DoesNotStand : Op → List ℕ → Type 0
+DoesNotStand op bytes = (rest : List ℕ) → SignStands op bytes rest → ⊥

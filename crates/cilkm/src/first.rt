@@ -1,13 +1,13 @@
 //! The reader of the first form of source text: `int main() { return E; }`, where E joins literals by
 //! `+`, `-` and `*`.
 
-ghost use Rattle.std.specs.Prelude.{true, ◌≡◌, ◌≤◌, ◌<◌, List, ℕ, IfOk, IfSome, IfNone, IsSome, IsSomeAnd, length, IsTrue, ◌↔◌, count_by, codes};
+ghost use Rattle.std.specs.Prelude.{true, ◌≡◌, ◌≤◌, ◌<◌, List, ℕ, IfOk, IfSome, IfNone, IsSome, IsSomeAnd, length, IsTrue, ◌↔◌, count_by};
 ghost use Rattle.cm_syntax.specs.Shape.{Joined};
 ghost use Rattle.cm_syntax.specs.declared.expr.Expr.{Expr};
 ghost use Rattle.cm_syntax.specs.declared.expr.Op.{Op};
+ghost use Rattle.cm_syntax.specs.declared.expr.Op.TheVariants as operators;
 ghost use Rattle.cm_syntax.specs.Expr.{IsClosed};
-ghost use Rattle.cilkm.specs.Scan.{Stands};
-ghost use Rattle.cilkm.specs.First.{sign_of, is_additive, IsFactor, IsProduct, IsSum, Opens, Closes, IsFirstForm, is_sign, DoesNotStand};
+ghost use Rattle.cilkm.specs.First.{SignStands, is_additive, IsFactor, IsProduct, IsSum, Opens, Closes, IsFirstForm, is_sign, DoesNotStand};
 
 use crate::scan::{is_blank, literal, sign, word};
 use cm_syntax::{Expr, Op};
@@ -80,8 +80,8 @@ fn factor(bytes: &[u8]) -> Option<(Expr<u32>, &[u8])>
 fn additive(bytes: &[u8]) -> Option<(Op, &[u8])>
     ensures shorter { IfSome result (λ found. length found.1.now < length bytes.now) }
     ensures level { IfSome result (λ found. is_additive found.0 ≡ true) }
-    ensures found { IfSome result (λ found. Stands (sign_of found.0) bytes.now found.1.now) }
-    ensures only { (op : Op) (end : List ℕ) → is_additive op ≡ true → Stands (sign_of op) bytes.now end
+    ensures found { IfSome result (λ found. SignStands found.0 bytes.now found.1.now) }
+    ensures only { (op : Op) (end : List ℕ) → is_additive op ≡ true → SignStands op bytes.now end
         → IsSome result }
 {
     if let Some(rest) = sign(bytes, b"+") {
@@ -96,7 +96,7 @@ fn product<'a>(alloc: Global, bytes: &'a [u8]) -> Result<Option<(Expr<u32>, &'a 
     ensures shorter { IfOk result (λ read. IfSome read (λ found. length found.1.now ≤ length bytes.now)) }
     ensures found { IfOk result (λ read. IfSome read (λ found. IsProduct found.0 bytes.now found.1.now)) }
     ensures only { (whole : Expr ℕ) (end : List ℕ) → IsProduct whole bytes.now end
-        → DoesNotStand (codes "*") end
+        → DoesNotStand operators.Mul end
         → IfOk result (λ read. IsSomeAnd read (λ found. (found.0 ≡ whole) × (found.1.now ≡ end))) }
 {
     let Some((mut left, mut rest)) = factor(bytes) else {
@@ -116,7 +116,7 @@ fn product<'a>(alloc: Global, bytes: &'a [u8]) -> Result<Option<(Expr<u32>, &'a 
 fn sum<'a>(alloc: Global, bytes: &'a [u8]) -> Result<Option<(Expr<u32>, &'a [u8])>, AllocError>
     ensures found { IfOk result (λ read. IfSome read (λ found. IsSum found.0 bytes.now found.1.now)) }
     ensures only { (whole : Expr ℕ) (end : List ℕ) → IsSum whole bytes.now end
-        → ((op : Op) → DoesNotStand (sign_of op) end)
+        → ((op : Op) → DoesNotStand op end)
         → IfOk result (λ read. IsSomeAnd read (λ found. (found.0 ≡ whole) × (found.1.now ≡ end))) }
 {
     let Some((mut left, mut rest)) = product(alloc, bytes)? else {

@@ -9,14 +9,16 @@ use Rattle.cm_isa.specs.Alu.{offset}
 use Rattle.cm_syntax.specs.declared.expr.Op.{Op}
 use Rattle.cm_syntax.specs.declared.expr.Op.TheVariants.{Mul, Add, Sub}
 use Rattle.cm_syntax.specs.declared.expr.Expr.{Expr}
-use Rattle.cm_syntax.specs.declared.expr.Expr.TheVariants.{Number, Scalar}
+use Rattle.cm_syntax.specs.declared.expr.Expr.TheVariants.{Number}
 use Rattle.cm_syntax.specs.Shape.{Joined}
-use Rattle.cm_syntax.specs.Expr.{value_of, temporaries, IsClosed}
+use Rattle.cm_syntax.specs.Expr.{value_of, IsClosed}
+use Rattle.cm_syntax.specs.Frame.{temporaries}
 use Rattle.cm_syntax.specs.Word.{combined}
 use Rattle.cm_gen.specs.Machine.{Machine, Code, ComesTo, StandsAt, with_word}
 use Rattle.cm_gen.specs.Code.{load_slot, store_slot, operate, evaluate, temporary}
 use Rattle.cm_gen.proofs.WordLemmas as words
 use Rattle.cm_gen.proofs.Steps.{comes_on, stands_front, stands_back}
+use Rattle.cm_gen.proofs.Trees.{temporaries-Joined}
 use Rattle.cm_gen.proofs.PatternLaws.{Sets, Puts, load_number_runs, store_slot_runs, load_slot_runs, operate_runs}
 
 -- ---- values
@@ -50,6 +52,10 @@ combined_fits Sub a b v e = subst (FitsSigned w32) (same _ v e) (words.wrapped_f
   where
     same : (x v : ℤ) → Some x ≡ Some v → x ≡ v
     same x v e = cc
+combined_fits _ a b v e = absurd (none_some v e)
+  where
+    none_some : (v : ℤ) → None ≡ Some v → ⊥
+    none_some v e = cc
 
 -- the value of an expression is a word
 pub value_fits : (e : Expr ℕ) (v : ℤ) → IsClosed e → value_of e ≡ Some v → FitsSigned w32 v
@@ -57,10 +63,10 @@ value_fits (Number n) v closed means = subst (FitsSigned w32) (same n v means) c
   where
     same : (x v : ℤ) → Some x ≡ Some v → x ≡ v
     same x v e = cc
-value_fits (Scalar mark) v closed means = absurd closed
 value_fits (Joined op left right) v closed means =
     let parts = both_some (combined op) (value_of left) (value_of right) v means in
     combined_fits op parts.0 parts.1 v parts.4
+value_fits _ v closed means = absurd closed
 
 -- ---- temporaries
 
@@ -285,13 +291,14 @@ module _ (code : Code) where
           mapped = λ a h. subst (λ (w : ℕ → Option ℕ). IsSome (w a)) (sym set.2.words) h;
         },
       )
-  evaluate_runs slots (Scalar mark) d limit f v closed means enough room = absurd closed
   evaluate_runs slots (Joined op left right) d limit f v closed means enough room =
       let parts = both_some (combined op) (value_of left) (value_of right) v means in
+      let few = subst (λ n. n ≤ limit) (temporaries-Joined op left right d closed.1) enough in
       let within : d < limit = omega arith in
       joined_runs op (evaluate slots left d) (store_slot 5 (temporary slots d)) (evaluate slots right (d + 1)) (load_slot 6 (temporary slots d)) slots d limit f parts.0 parts.1 v
-      (value_fits left parts.0 closed.0 parts.2) (value_fits right parts.1 closed.1 parts.3) parts.4 room within
+      (value_fits left parts.0 closed.0 parts.2) (value_fits right parts.1 closed.2 parts.3) parts.4 room within
       (evaluate_runs slots left d limit f parts.0 closed.0 parts.2 (omega arith) room)
       (keeps_slot slots d limit f room within)
-      (evaluate_runs slots right (d + 1) limit f parts.1 closed.1 parts.3 (omega arith) room)
+      (evaluate_runs slots right (d + 1) limit f parts.1 closed.2 parts.3 (omega arith) room)
       (brings_slot slots d limit f room within)
+  evaluate_runs slots _ d limit f v closed means enough room = absurd closed

@@ -1,5 +1,5 @@
 -- What each pattern of the code does: the machine comes from the pattern's place to the place after it.
-use Rattle.std.proofs.Common.{◌≡◌, ℕ, ◌+◌, ◌*◌, ◌%◌, ◌^◌, ◌<◌, [], ◌∷◌, length, Option, Some, refl, sym, ap, ◌∙◌, subst, arith}
+use Rattle.std.proofs.Common.{◌≡◌, ℕ, ◌+◌, ◌*◌, ◌%◌, ◌^◌, ◌<◌, [], ◌∷◌, length, Option, None, Some, refl, sym, ap, ◌∙◌, subst, arith}
 use Rattle.std.specs.Prelude.{Bool, true, false, ◌==◌, if◌then◌else◌, ℤ, ◌+ℤ◌, ◌-ℤ◌, ◌*ℤ◌, FitsSigned}
 use Rattle.std.specs.Int.{w32, cast_unsigned}
 use Rattle.cm_isa.specs.Operation.{Operation}
@@ -206,3 +206,7 @@ module _ (code : Code) where
       operated Mul e = ap next (joined (λ a b. a *ℤ b) e)
       operated Add e = ap next (joined (λ a b. a +ℤ b) e)
       operated Sub e = ap next (joined (λ a b. a -ℤ b) e)
+      operated _ e = absurd (none_some e)
+        where
+          none_some : None ≡ Some value → ⊥
+          none_some e = cc

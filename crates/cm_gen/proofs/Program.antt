@@ -8,9 +8,10 @@ use Rattle.cm_isa.specs.Effect.{follow}
 use Rattle.cm_syntax.specs.declared.expr.Op.{Op}
 use Rattle.cm_syntax.specs.declared.expr.Op.TheVariants.{Mul, Add, Sub}
 use Rattle.cm_syntax.specs.declared.expr.Expr.{Expr}
-use Rattle.cm_syntax.specs.declared.expr.Expr.TheVariants.{Number, Scalar}
+use Rattle.cm_syntax.specs.declared.expr.Expr.TheVariants.{Number}
 use Rattle.cm_syntax.specs.Shape.{Joined}
-use Rattle.cm_syntax.specs.Expr.{value_of, temporaries, operator_count, IsClosed}
+use Rattle.cm_syntax.specs.Expr.{value_of, operator_count, is_plain, IsClosed}
+use Rattle.cm_syntax.specs.Frame.{temporaries}
 use Rattle.cm_syntax.specs.Word.{combined}
 use Rattle.cm_gen.specs.Machine.{Machine, Code, ComesTo, StandsAt, moved, with_register, with_word}
 use Rattle.cm_gen.specs.Operations.{lui, addi, add, sub, lw, sw, jal, jalr, bgeu}
@@ -18,6 +19,7 @@ use Rattle.cm_gen.specs.Code.{is_near, high_part, low_part, load_number, load_sl
 use Rattle.cm_gen.specs.Run.{stack_top, start_registers}
 use Rattle.cm_gen.proofs.WordLemmas as words
 use Rattle.cm_gen.proofs.Steps.{comes_by_one, comes_on, stands_front, stands_back}
+use Rattle.cm_gen.proofs.Trees.{temporaries-Joined}
 use Rattle.cm_gen.proofs.Expressions.{with_word_mapped, value_fits, HasRoom, AreMapped, temporary_address, Evaluated, evaluate_runs}
 use Rattle.cm_gen.proofs.Functions.{IsFrameBelow, framed_registers, framed_words, left_registers, set_at, number_at, tick_runs, account_runs, frame_by, leave_by}
 
@@ -35,7 +37,6 @@ short_store r o = elim (is_near o) as (λ b. length (if b then sw r 8 o ∷ [] e
 -- the code of an expression has at most nine instructions for each operator, and two more
 pub short_code : (slots : ℕ) (e : Expr ℕ) (d : ℕ) → length (evaluate slots e d) ≤ 2 + 9 * operator_count e
 short_code slots (Number n) d = omega (arith, short_number 5 n)
-short_code slots (Scalar mark) d = omega arith
 short_code slots (Joined op left right) d =
     let first = evaluate slots left d in
     let keep = store_slot 5 (temporary slots d) in
@@ -52,27 +53,33 @@ short_code slots (Joined op left right) d =
       short_load 6 (temporary slots d),
       short_store 5 (temporary slots d),
     )
+short_code slots _ d = omega arith
 
--- an expression needs no more temporaries than it has operators
-pub few_temporaries : (e : Expr ℕ) (d : ℕ) → temporaries e d ≤ d + operator_count e
-few_temporaries (Number n) d = omega arith
-few_temporaries (Scalar mark) d = omega arith
-few_temporaries (Joined op left right) d = omega (arith, few_temporaries left d, few_temporaries right (d + 1))
+-- a closed expression needs no more temporaries than it has operators
+pub few_temporaries : (e : Expr ℕ) (d : ℕ) → IsClosed e → temporaries e d ≤ d + operator_count e
+few_temporaries (Number n) d closed = omega arith
+few_temporaries (Joined op left right) d closed =
+    omega (arith, temporaries-Joined op left right d closed.1, few_temporaries left d closed.0, few_temporaries right (d + 1) closed.2)
+few_temporaries _ d closed = absurd closed
 
--- an expression of literals and operators has a value
+-- a closed expression has a value
 pub has_value : (e : Expr ℕ) → IsClosed e → (v : ℤ) × (value_of e ≡ Some v)
 has_value (Number n) closed = (n, refl)
-has_value (Scalar mark) closed = absurd closed
 has_value (Joined op left right) closed =
     let a = has_value left closed.0 in
-    let b = has_value right closed.1 in
-    let c = combined_value op a.0 b.0 in
+    let b = has_value right closed.2 in
+    let c = combined_value op closed.1 a.0 b.0 in
     (c.0, ap (λ x. option_and_then (λ p. option_and_then (λ q. combined op p q) (value_of right)) x) a.1 ∙ ap (λ y. option_and_then (λ q. combined op a.0 q) y) b.1 ∙ c.1)
   where
-    combined_value : (op : Op) (a b : ℤ) → (v : ℤ) × (combined op a b ≡ Some v)
-    combined_value Mul a b = (_, refl)
-    combined_value Add a b = (_, refl)
-    combined_value Sub a b = (_, refl)
+    false_true : false ≡ true → ⊥
+    false_true e = cc
+
+    combined_value : (op : Op) → is_plain op ≡ true → (a b : ℤ) → (v : ℤ) × (combined op a b ≡ Some v)
+    combined_value Mul plain a b = (_, refl)
+    combined_value Add plain a b = (_, refl)
+    combined_value Sub plain a b = (_, refl)
+    combined_value _ plain a b = absurd (false_true plain)
+has_value _ closed = absurd closed
 
 -- ---- the run
 
@@ -256,7 +263,7 @@ module _ (code : Code) where
       small_code = short_code 0 e 0
 
       low_limit : limit ≤ 64
-      low_limit = omega (arith, few_temporaries e 0)
+      low_limit = omega (arith, few_temporaries e 0 closed)
 
       large : 4 * (2 + limit) ≤ b
       large = omega arith

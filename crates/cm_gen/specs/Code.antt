@@ -2,15 +2,15 @@
 --
 -- Registers: 1 return address, 2 stack pointer, 3 account left, 4 ticks left, 5 value, 6 and 7 help,
 -- 8 frame pointer, 10 result, 31 service number. The frame pointer is the address just above the frame.
-use Rattle.std.specs.Prelude.{ℕ, ◌+◌, ◌*◌, ◌/◌, ℤ, pos, negsuc, neg_ℤ, ◌+ℤ◌, ◌-ℤ◌, int_le, Bool, ◌&&◌, if◌then◌else◌, List, [], ◌∷◌, ◌++◌}
+use Rattle.std.specs.Prelude.{ℕ, ◌+◌, ◌*◌, ℤ, pos, negsuc, neg_ℤ, ◌+ℤ◌, ◌-ℤ◌, int_le, Bool, ◌&&◌, if◌then◌else◌, List, [], ◌∷◌, ◌++◌}
 use Rattle.std.specs.Int.{int_rem_euclid}
 use Rattle.cm_isa.specs.Operation.{Operation, ecall}
 use Rattle.cm_syntax.specs.declared.expr.Op.{Op}
 use Rattle.cm_syntax.specs.declared.expr.Op.TheVariants.{Mul, Add, Sub}
 use Rattle.cm_syntax.specs.declared.expr.Expr.{Expr}
-use Rattle.cm_syntax.specs.declared.expr.Expr.TheVariants.{Number, Scalar}
+use Rattle.cm_syntax.specs.declared.expr.Expr.TheVariants.{Number}
 use Rattle.cm_syntax.specs.Shape.{Joined}
-use Rattle.cm_syntax.specs.Expr.{temporaries}
+use Rattle.cm_syntax.specs.Frame.{temporaries, rounded_frame}
 use Rattle.cm_syntax.specs.Word.{wrapped}
 use Rattle.cm_gen.specs.Operations.{lui, addi, add, sub, mul, lw, sw, jal, jalr, bne, bgeu}
 
@@ -56,24 +56,23 @@ tick = bne 4 0 (pos 12) ∷ (service (pos 6) ++ addi 4 4 (negsuc 0) ∷ [])
 abbrev pub temporary : (slots j : ℕ) → ℤ
 temporary slots j = neg_ℤ (pos (4 * (3 + slots + j)))
 
--- the operator, with its left operand in register 6 and its right one in register 5
+-- The operator, with its left operand in register 6 and its right one in register 5. Only `+`, `-` and `*` have
+-- code here: the last case, which does nothing, says nothing of the other operators, and no closed expression has them.
 abbrev pub operate : Op → Operation
 operate Mul = mul 5 6 5
 operate Add = add 5 6 5
 operate Sub = sub 5 6 5
+operate _ = addi 0 0 (pos 0)
 
--- register 5 takes the expression's value; d temporaries are in use before
+-- Register 5 takes the expression's value; d temporaries are in use before. Only literals and what operators join
+-- have code here: the last case, no instruction, says nothing of the other expressions, and no closed one has them.
 abbrev pub evaluate : (slots : ℕ) → Expr ℕ → (d : ℕ) → List Operation
 evaluate slots (Number n) d = load_number 5 n
-evaluate slots (Scalar mark) d = []
 evaluate slots (Joined op left right) d =
     evaluate slots left d ++ (store_slot 5 (temporary slots d) ++ (evaluate slots right (d + 1) ++ (load_slot 6 (temporary slots d) ++ operate op ∷ [])))
+evaluate slots _ d = []
 
 -- ---- functions
-
--- the words of a frame: return address, frame pointer, slots and temporaries, rounded up to a multiple of 4
-abbrev pub frame_words : (slots temporaries : ℕ) → ℕ
-frame_words slots temporaries = (2 + slots + temporaries + 3) / 4 * 4
 
 -- so many bytes are taken of the account; where they aren't left, service 9 ends the run with the trap `stack`
 abbrev pub take_account : (q : ℕ) → List Operation
@@ -93,7 +92,7 @@ leave q = load_number 7 (pos q) ++ (add 3 3 7 ∷ addi 10 5 (pos 0) ∷ lw 1 8 (
 
 -- the bytes of main's frame
 abbrev pub frame_bytes : Expr ℕ → ℕ
-frame_bytes e = 4 * frame_words 0 (temporaries e 0)
+frame_bytes e = 4 * rounded_frame 0 (temporaries e 0)
 
 -- `return E;` at the end of a body jumps past the 0 that a function that falls off its end returns
 abbrev pub main_code : Expr ℕ → List Operation

@@ -1,8 +1,9 @@
 //! The words of a program of one expression, `int main() { return E; }`.
 #![tactic(auto, using(crate::proofs::Emitted::emitted))]
 
-ghost use Rattle.std.specs.Prelude.{◌≡◌, ◌+◌, ◌*◌, ◌<◌, ◌≤◌, ◌^◌, [], ◌∷◌, ◌++◌, OnOk, IfOk, Contains};
+ghost use Rattle.std.specs.Prelude.{true, ◌≡◌, ◌+◌, ◌*◌, ◌<◌, ◌≤◌, ◌^◌, [], ◌∷◌, ◌++◌, OnOk, IfOk, Contains};
 ghost use Rattle.cm_syntax.specs.Expr as expression;
+ghost use Rattle.cm_syntax.specs.Frame as frame;
 ghost use Rattle.cm_gen.specs.Code as pattern;
 ghost use Rattle.cm_isa.specs.Places.{AreWordsOf};
 ghost use Rattle.cm_gen.specs.Run.{RunsTo};
@@ -15,7 +16,7 @@ use cm_text::{List, Memory};
 use std::alloc::Global;
 
 /// The words of the image of `int main() { return E; }` for an expression of literals and at most 64
-/// operators, one word for each instruction, from address 0 on.
+/// operators `+`, `-` and `*`, one word for each instruction, from address 0 on.
 ///
 /// A run that starts at the table of functions, at address 8, with a tick and room for main's frame comes
 /// to the end service with the expression's value in register 5. `page` is the page size in bytes; it
@@ -35,7 +36,8 @@ pub fn make_first(alloc: Global, value: &Expr<u32>, _page: u32) -> Result<List<u
 
 /// The end service, the table of functions, and main.
 fn image(code: &mut List<Instr>, value: &Expr<u32>) -> Result<(), Memory>
-    requires { expression.operator_count value.now ≤ 64 }
+    requires closed { expression.IsClosed value.now }
+    requires short { expression.operator_count value.now ≤ 64 }
     ensures { OnOk result (code.new ≡ code.old ++ pattern.first_code value.now) }
 {
     service(code, 0)?;
@@ -46,7 +48,8 @@ fn image(code: &mut List<Instr>, value: &Expr<u32>) -> Result<(), Memory>
 
 /// The code of main, whose body is `return E;`.
 fn main_code(code: &mut List<Instr>, value: &Expr<u32>) -> Result<(), Memory>
-    requires { expression.operator_count value.now ≤ 64 }
+    requires closed { expression.IsClosed value.now }
+    requires short { expression.operator_count value.now ≤ 64 }
     ensures { OnOk result (code.new ≡ code.old ++ pattern.main_code value.now) }
 {
     let bytes = frame_bytes(value);
@@ -60,12 +63,12 @@ fn main_code(code: &mut List<Instr>, value: &Expr<u32>) -> Result<(), Memory>
 
 /// Register 5 takes the expression's value; `depth` temporaries are in use before.
 fn evaluate(code: &mut List<Instr>, value: &Expr<u32>, depth: u32) -> Result<(), Memory>
-    requires { depth + expression.operator_count value.now ≤ 2 ^ 16 }
+    requires closed { expression.IsClosed value.now }
+    requires short { depth + expression.operator_count value.now ≤ 2 ^ 16 }
     ensures { OnOk result (code.new ≡ code.old ++ pattern.evaluate 0 value.now depth) }
 {
     match value {
         Expr::Number(number) => load_number(code, 5, *number),
-        Expr::Scalar(_) => Ok(()),
         Expr::Binary(op, left, right) => {
             evaluate(code, left.get(), depth)?;
             store_slot(code, 5, temporary(depth))?;
@@ -74,17 +77,20 @@ fn evaluate(code: &mut List<Instr>, value: &Expr<u32>, depth: u32) -> Result<(),
             code.push(operate(*op))?;
             Ok(())
         }
+        _ => unreachable!(),
     }
 }
 
-/// The operator, with its left operand in register 6 and its right one in register 5.
+/// The operator `+`, `-` or `*`, with its left operand in register 6 and its right one in register 5.
 fn operate(op: Op) -> Instr
+    requires { expression.is_plain op ≡ true }
     ensures { result ≡ pattern.operate op }
 {
     match op {
         Op::Mul => mul(5, 6, 5),
         Op::Add => add(5, 6, 5),
         Op::Sub => sub(5, 6, 5),
+        _ => unreachable!(),
     }
 }
 
@@ -98,7 +104,8 @@ fn temporary(number: u32) -> i32
 
 /// The bytes of main's frame.
 fn frame_bytes(value: &Expr<u32>) -> u32
-    requires { expression.operator_count value.now ≤ 64 }
+    requires closed { expression.IsClosed value.now }
+    requires short { expression.operator_count value.now ≤ 64 }
     ensures bytes { result ≡ pattern.frame_bytes value.now }
     ensures small { result < 2 ^ 31 }
 {
@@ -108,17 +115,19 @@ fn frame_bytes(value: &Expr<u32>) -> u32
 /// The temporaries that are in use, at most, while an expression is evaluated of which `depth` are in
 /// use before.
 fn temporaries(value: &Expr<u32>, depth: u32) -> u32
-    requires { depth + expression.operator_count value.now ≤ 2 ^ 16 }
-    ensures count { result ≡ expression.temporaries value.now depth }
+    requires closed { expression.IsClosed value.now }
+    requires short { depth + expression.operator_count value.now ≤ 2 ^ 16 }
+    ensures count { result ≡ frame.temporaries value.now depth }
     ensures few { result ≤ depth + expression.operator_count value.now }
 {
     match value {
-        Expr::Number(_) | Expr::Scalar(_) => depth,
+        Expr::Number(_) => depth,
         Expr::Binary(_, left, right) => {
             let first = temporaries(left.get(), depth);
             let second = temporaries(right.get(), depth + 1);
             first.max(second.max(depth + 1))
         }
+        _ => unreachable!(),
     }
 }
 

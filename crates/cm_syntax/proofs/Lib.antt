@@ -1,2 +1,14 @@
 -- The lemmas that the proofs share.
 pub mod Rows
+pub mod FrameLaws
+pub mod StatementLaws
+pub mod Spelling
+pub mod TokenLaws
+pub mod RefusalLaws
+pub mod Lexing
+pub mod ProgramLaws
+pub mod SourceRows
+pub mod NameRows
+pub mod SoundLaws
+pub mod BoundLaws
+pub mod AnswerLaws

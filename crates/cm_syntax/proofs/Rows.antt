@@ -6,7 +6,8 @@ use Rattle.cm_syntax.specs.declared.expr.Expr.{Expr}
 use Rattle.cm_syntax.specs.declared.expr.Expr.TheVariants.{Number}
 use Rattle.cm_syntax.specs.declared.expr.Op.TheVariants.{Mul, Add, Sub}
 use Rattle.cm_syntax.specs.Shape.{Joined}
-use Rattle.cm_syntax.specs.Expr.{value_of, temporaries, operator_count}
+use Rattle.cm_syntax.specs.Expr.{value_of, operator_count}
+use Rattle.cm_syntax.specs.Frame.{temporaries}
 
 -- a literal
 abbrev literal : ℕ → Expr ℕ

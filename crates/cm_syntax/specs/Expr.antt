@@ -1,32 +1,33 @@
--- What an expression means, and how much room its evaluation takes.
-use Rattle.std.specs.Prelude.{ℕ, ◌+◌, ◌≤ℤ◌, max, ℤ, pos, Option, None, Some, option_and_then}
+-- What the expressions that have code today mean: literals joined by `+`, `-` and `*`.
+use Rattle.std.specs.Prelude.{ℕ, ◌+◌, ◌≡◌, ◌≤ℤ◌, ℤ, pos, Bool, true, false, Option, None, Some, option_and_then}
 use Rattle.cm_syntax.specs.declared.expr.Expr.{Expr}
-use Rattle.cm_syntax.specs.declared.expr.Expr.TheVariants.{Number, Scalar}
+use Rattle.cm_syntax.specs.declared.expr.Expr.TheVariants.{Number}
+use Rattle.cm_syntax.specs.declared.expr.Op.{Op}
+use Rattle.cm_syntax.specs.declared.expr.Op.TheVariants.{Mul, Add, Sub}
 use Rattle.cm_syntax.specs.Shape.{Joined}
 use Rattle.cm_syntax.specs.Word.{IsWord, combined}
 
--- The value of an expression without variables: the left operand, then the right one, then the operator.
--- A variable has no value here.
+-- The value of an expression of literals and these operators: the left operand, then the right one, then the
+-- operator. No other expression has a value here.
 abbrev pub value_of : Expr ℕ → Option ℤ
 value_of (Number n) = Some n
-value_of (Scalar mark) = None
 value_of (Joined op left right) = option_and_then (λ a. option_and_then (λ b. combined op a b) (value_of right)) (value_of left)
+value_of _ = None
 
--- The temporaries that are in use, at most, while an expression is evaluated of which d are in use before:
--- the left operand is kept in temporary d while the right one is evaluated.
-abbrev pub temporaries : Expr ℕ → ℕ → ℕ
-temporaries (Number n) d = d
-temporaries (Scalar mark) d = d
-temporaries (Joined op left right) d = max (temporaries left d) (max (d + 1) (temporaries right (d + 1)))
-
--- the number of operators
+-- the number of operators that join its literals
 abbrev pub operator_count : Expr ℕ → ℕ
-operator_count (Number n) = 0
-operator_count (Scalar mark) = 0
 operator_count (Joined op left right) = operator_count left + operator_count right + 1
+operator_count _ = 0
 
--- an expression of literals and operators, with no variable; a literal is a word that isn't negative
+-- `+`, `-` or `*`
+abbrev pub is_plain : Op → Bool
+is_plain Mul = true
+is_plain Add = true
+is_plain Sub = true
+is_plain _ = false
+
+-- an expression of literals and these operators; a literal is a word that isn't negative
 abbrev pub IsClosed : Expr ℕ → Type 0
 IsClosed (Number n) = IsWord n × (pos 0 ≤ℤ n)
-IsClosed (Scalar mark) = ⊥
-IsClosed (Joined op left right) = IsClosed left × IsClosed right
+IsClosed (Joined op left right) = IsClosed left × (is_plain op ≡ true) × IsClosed right
+IsClosed _ = ⊥

@@ -1,3 +1,15 @@
 pub mod Word
 pub mod Shape
 pub mod Expr
+pub mod Frame
+pub mod Text
+pub mod Tokens
+pub mod Trees
+pub mod Yields
+pub mod Meaning
+pub mod Grammar
+pub mod Refusals
+pub mod Canonical
+pub mod Names
+pub mod Faults
+pub mod Rows

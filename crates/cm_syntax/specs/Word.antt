@@ -1,6 +1,6 @@
 -- The words of the source language and its operators on them.
 -- A word is a whole number from -2^31 to 2^31 - 1, in two's complement.
-use Rattle.std.specs.Prelude.{ℤ, ◌+ℤ◌, ◌-ℤ◌, ◌*ℤ◌, Option, Some, FitsSigned}
+use Rattle.std.specs.Prelude.{ℤ, ◌+ℤ◌, ◌-ℤ◌, ◌*ℤ◌, Option, None, Some, FitsSigned}
 use Rattle.std.specs.Int.{w32, int_wrap}
 use Rattle.cm_syntax.specs.declared.expr.Op.{Op}
 use Rattle.cm_syntax.specs.declared.expr.Op.TheVariants.{Mul, Add, Sub}
@@ -13,8 +13,9 @@ IsWord z = FitsSigned w32 z
 abbrev pub wrapped : ℤ → ℤ
 wrapped z = int_wrap w32 z
 
--- what an operator gives of its left and its right operand, and None where it has no value
+-- what an operator of those that have code today gives of its left and its right operand
 abbrev pub combined : Op → ℤ → ℤ → Option ℤ
 combined Mul left right = Some (wrapped (left *ℤ right))
 combined Add left right = Some (wrapped (left +ℤ right))
 combined Sub left right = Some (wrapped (left -ℤ right))
+combined _ left right = None

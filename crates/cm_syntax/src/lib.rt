@@ -1,8 +1,21 @@
-//! The trees of the source language, and what an expression means.
+//! The source language: its trees, and the definitions of its tokens, grammar, names and frames.
 //!
 //! This crate holds plain data and definitions: it reads no text, makes no code and prints nothing.
 #![tactic(auto)]
 
 mod expr;
+mod frame;
+mod laws;
+mod name;
+mod stmt;
+mod token;
 
-pub use expr::{Expr, Mark, Op};
+pub use expr::{Arg, Call, Expr, Mark, Op};
+pub use frame::{frame_bytes, frame_words};
+pub use laws::{
+    faulty_sources, frames_of_sources, members, mentions_of_sources, one_syntax_place,
+    one_token_list, refused_sources, sound_sources, tokens_of_texts, trees_of_sources,
+};
+pub use name::Name;
+pub use stmt::{Function, Item, Program, Slot, Stmt, Target, Tree};
+pub use token::{Keyword, Sign};

@@ -1,6 +1,6 @@
-use Rattle.std.proofs.Common.{◌+◌, ap, ◌∙◌, arith}
+use Rattle.std.proofs.Common.{◌+◌, ap, ◌∙◌, subst, sym, arith}
 use Rattle.cm_syntax.specs.Expr as expression
-use Rattle.cm_gen.proofs.Trees.{operator_count-Binary, evaluate-Binary}
+use Rattle.cm_gen.proofs.Trees.{closed-Binary, operator_count-Binary, evaluate-Binary}
 use Rattle.std.specs.Prelude.{ℕ}
 use Rattle.std.specs.Int.{w32}
 use Rattle.std.proofs.lemmas.Int.{to_z-of_z}
@@ -12,14 +12,20 @@ use Rattle.cm_gen.proofs.first.+evaluate.Goals as goal
 pub evaluate-requires : goal.evaluate-requires
 evaluate-requires t c =
     let count = operator_count-Binary c.args.value.now c.in-Binary.op c.in-Binary.left c.in-Binary.right c.in-Binary.is in
+    let closed = closed-Binary c.args.value.now c.in-Binary.op c.in-Binary.left c.in-Binary.right c.in-Binary.is c.requires.closed in
     let left = ap expression.operator_count c.get.ensures in
-    (omega (arith, count, left, c.decreases), omega (arith, count, left))
+    (omega (arith, count, left, c.decreases), (subst expression.IsClosed (sym c.get.ensures) closed.0, omega (arith, count, left)))
 
 pub evaluate-requires-in-Binary : goal.evaluate-requires-in-Binary
 evaluate-requires-in-Binary t c =
     let count = operator_count-Binary c.args.value.now c.in-Binary.op c.in-Binary.left c.in-Binary.right c.in-Binary.is in
+    let closed = closed-Binary c.args.value.now c.in-Binary.op c.in-Binary.left c.in-Binary.right c.in-Binary.is c.requires.closed in
     let right = ap expression.operator_count c.get-in-Binary.ensures in
-    (omega (arith, count, right, c.decreases), omega (arith, count, right))
+    (omega (arith, count, right, c.decreases), (subst expression.IsClosed (sym c.get-in-Binary.ensures) closed.2, omega (arith, count, right)))
+
+pub operate-requires : goal.operate-requires
+operate-requires t c =
+    (closed-Binary c.args.value.now c.in-Binary.op c.in-Binary.left c.in-Binary.right c.in-Binary.is c.requires.closed).1
 
 pub returns-in_ok-push-in-Binary : goal.returns-in_ok-push-in-Binary
 returns-in_ok-push-in-Binary t c =

@@ -1,0 +1,67 @@
+-- A function of a sound program has a frame of at most 32,768 words.
+use Rattle.std.proofs.Common.{◌≡◌, ℕ, ◌+◌, ◌<◌, ◌≤◌, Bool, true, false, not, List, [], ◌∷◌, ◌++◌, length, refl, sym, ap, ◌∙◌, subst, All, if◌then◌else◌}
+use Rattle.std.specs.Prelude.{nat_lt, ◌==◌, slice_index_or}
+use Rattle.std.specs.List.{list_any, flat_map}
+use Rattle.std.proofs.lemmas.Bool.{ltb-false}
+use Rattle.std.proofs.lemmas.List.Elements.{All-nil, All-cons}
+use Rattle.cm_syntax.specs.declared.name.Name.{Name}
+use Rattle.cm_syntax.specs.declared.stmt.Function.{Function}
+use Rattle.cm_syntax.specs.Frame.{frame_words, rounded_frame, slots_words, body_temporaries}
+use Rattle.cm_syntax.specs.Names.{Use, mention, calls, again, parallel, returns, function_uses, function_slots, outermost, after_items, numbered_body, numbered_from, numbered_definition}
+use Rattle.cm_syntax.specs.Faults.{Variant, frame, fault_where, use_faults, is_faulty_mention, temporaries_of, frame_of, function_faults, functions_faults, IsSoundFunction}
+
+nothing_first : {A : Type 0} (a b : List A) → a ++ b ≡ [] → a ≡ []
+nothing_first [] b e = refl
+nothing_first (x ∷ a) b e = cc
+
+nothing_second : {A : Type 0} (a b : List A) → a ++ b ≡ [] → b ≡ []
+nothing_second [] b e = e
+nothing_second (x ∷ a) b e = cc
+
+no_fault : (is_faulty : Bool) (at : ℕ) (v : Variant) → fault_where is_faulty at v ≡ [] → is_faulty ≡ false
+no_fault true at v e = cc
+no_fault false at v e = refl
+
+module _ (functions : List (Function Name)) where
+  -- where no use is faulty no mention is
+  no_faulty_use : (f : Function Name) (use_ : Use) → use_faults functions f use_ ≡ [] → is_faulty_mention functions f use_ ≡ false
+  no_faulty_use f (mention x role v) e = ap (λ found. not (length found == 0)) e
+  no_faulty_use f (calls g arguments wanted) e = ap (λ found. not (length found == 0)) e
+  no_faulty_use f (again at) e = refl
+  no_faulty_use f (parallel at) e = refl
+  no_faulty_use f (returns at has_value) e = refl
+
+  no_faulty_uses : (f : Function Name) (uses : List Use) → flat_map (use_faults functions f) uses ≡ [] → list_any (is_faulty_mention functions f) uses ≡ false
+  no_faulty_uses f [] e = refl
+  no_faulty_uses f (first ∷ more) e =
+      let one = no_faulty_use f first (nothing_first (use_faults functions f first) (flat_map (use_faults functions f) more) e) in
+      let others = no_faulty_uses f more (nothing_second (use_faults functions f first) (flat_map (use_faults functions f) more) e) in
+      rw (one, others) refl
+
+  -- so its frame is that of its numbered body
+  frame_numbered : (before : List (Function Name)) (index : ℕ) (f : Function Name) → function_faults functions before index f ≡ [] →
+      frame_words (numbered_definition functions index f) ≤ 32768
+  frame_numbered before index f e =
+      let behind_twice = nothing_second _ _ e in
+      let behind_main = nothing_second _ _ behind_twice in
+      let few : nat_lt 32768 (frame_of functions f) ≡ false = no_fault _ f.name.at frame (nothing_first _ _ behind_main) in
+      let behind_frame = nothing_second _ _ behind_main in
+      let sound : list_any (is_faulty_mention functions f) (function_uses f) ≡ false = no_faulty_uses f (function_uses f) (nothing_second _ _ behind_frame) in
+      let numbered : temporaries_of functions f ≡ body_temporaries (numbered_body functions (after_items outermost f.parameters) f.body) =
+      ap (λ t. if t then body_temporaries f.body else body_temporaries (numbered_body functions (after_items outermost f.parameters) f.body)) sound in
+      subst (λ t. rounded_frame (slots_words (function_slots f)) t ≤ 32768) numbered (ltb-false 32768 (frame_of functions f) few)
+
+  frames_numbered : (before : List (Function Name)) (index : ℕ) (fs : List (Function Name)) → functions_faults functions before index fs ≡ [] →
+      All (λ g. frame_words g ≤ 32768) (numbered_from functions index fs)
+  frames_numbered before index [] e = All-nil (λ g. frame_words g ≤ 32768)
+  frames_numbered before index (f ∷ more) e =
+      All-cons (λ g. frame_words g ≤ 32768) (numbered_definition functions index f) (numbered_from functions (index + 1) more)
+      (frame_numbered before index f (nothing_first _ _ e)) (frames_numbered (before ++ f ∷ []) (index + 1) more (nothing_second _ _ e))
+
+pub sound_frame : (f : Function ℕ) → IsSoundFunction f → frame_words f ≤ 32768
+sound_frame f (program, sound, (k, lt, is)) =
+    let tree = sound.0 in
+    let all = frames_numbered tree.functions [] 0 tree.functions (nothing_first _ _ sound.2) in
+    let among : slice_index_or (numbered_from tree.functions 0 tree.functions) k f ≡ f = ap (λ p. slice_index_or p.functions k f) (sym sound.3) ∙ is in
+    let within : k < length (numbered_from tree.functions 0 tree.functions) = subst (λ p. k < length p.functions) sound.3 lt in
+    subst (λ g. frame_words g ≤ 32768) among (all k f within)

@@ -1,0 +1,61 @@
+use Rattle.std.proofs.Common.{List, Bool, true, false, None, refl, codes}
+use Rattle.cm_syntax.specs.declared.name.Name.{Name}
+use Rattle.cm_syntax.specs.declared.stmt.Stmt.{Stmt}
+use Rattle.cm_syntax.specs.Tokens.{Placed}
+use Rattle.cm_syntax.specs.Grammar.{IsPlain}
+use Rattle.cm_syntax.specs.Trees.{Mark, Expression, Invocation, Any, Declarator, Declarators, Written, Simple, Plain, Statements, Parameters, Definition, Source}
+use Rattle.cm_syntax.proofs.laws.members.Goals as goal
+
+abbrev x : Mark
+x = record { name = codes "x"; at = 0 }
+
+abbrev one : Any
+one = Any.any (Expression.literal 0 1)
+
+abbrev main : Definition
+main = record {
+  cilk_at = None;
+  gives = true;
+  type_at = 0;
+  name = x;
+  opening = 0;
+  parameters = Parameters.none;
+  closing = 0;
+  body_opening = 0;
+  body = Statements.none;
+  body_closing = 0;
+}
+
+pub returns-clause-expression : goal.returns-clause-expression
+returns-clause-expression c = λ level le. (_, _, (12, le, Expression.variable x, refl, refl))
+
+pub returns-clause-call : goal.returns-clause-call
+returns-clause-call c = (_, _, (Invocation.alone x 0 0, refl, refl))
+
+pub returns-clause-declarators : goal.returns-clause-declarators
+returns-clause-declarators c = (_, _, (Declarators.last (Declarator.scalar x), refl, refl))
+
+pub returns-clause-target : goal.returns-clause-target
+returns-clause-target c = (_, _, (Written.scalar x, refl, refl))
+
+pub returns-clause-simple : goal.returns-clause-simple
+returns-clause-simple c = (_, _, (Simple.assign (Written.scalar x) 0 one, refl, refl))
+
+plain : (is_open : Bool) → (tokens : List Placed) × (tree : Stmt Name) × IsPlain is_open tokens tree
+plain true = (_, _, (Plain.if_alone 0 0 one 0 (Plain.empty 0), refl, refl))
+plain false = (_, _, (Plain.empty 0, refl, refl))
+
+pub returns-clause-plain : goal.returns-clause-plain
+returns-clause-plain c = plain
+
+pub returns-clause-statements : goal.returns-clause-statements
+returns-clause-statements c = (_, _, (Statements.none, refl, refl))
+
+pub returns-clause-parameters : goal.returns-clause-parameters
+returns-clause-parameters c = (_, _, (Parameters.none, refl, refl))
+
+pub returns-clause-function : goal.returns-clause-function
+returns-clause-function c = (_, _, (main, refl, refl))
+
+pub returns-clause-program : goal.returns-clause-program
+returns-clause-program c = (_, _, (Source.last main, refl, refl))

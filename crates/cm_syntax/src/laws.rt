@@ -1,0 +1,180 @@
+//! Laws of the definitions, and single texts worked out by hand with which they have to agree. The functions do
+//! nothing: their contracts are the laws.
+
+ghost use Rattle.std.specs.Prelude.{◌≡◌, ◌≤◌, ◌<◌, ◌++◌, [], ◌∷◌, ℕ, List, Bool, pos, length, codes, replicate, Some, None};
+ghost use Rattle.cm_syntax.specs.declared.name.Name.{Name};
+ghost use Rattle.cm_syntax.specs.declared.expr.Expr.{Expr};
+ghost use Rattle.cm_syntax.specs.declared.expr.Expr.TheVariants as expression;
+ghost use Rattle.cm_syntax.specs.declared.expr.Call.{Call};
+ghost use Rattle.cm_syntax.specs.declared.stmt.Item.{Item};
+ghost use Rattle.cm_syntax.specs.declared.stmt.Target.{Target};
+ghost use Rattle.cm_syntax.specs.declared.stmt.Stmt.{Stmt};
+ghost use Rattle.cm_syntax.specs.declared.stmt.Stmt.TheVariants as statement;
+ghost use Rattle.cm_syntax.specs.declared.stmt.Function.{Function};
+ghost use Rattle.cm_syntax.specs.declared.token.Keyword.TheVariants as keywords;
+ghost use Rattle.cm_syntax.specs.declared.token.Sign.TheVariants as signs;
+ghost use Rattle.cm_syntax.specs.Tokens.{Token, Placed, placed, Tokens};
+ghost use Rattle.cm_syntax.specs.Grammar.{IsExpression, IsCall, AreDeclarators, IsTarget, IsSimple, IsPlain, AreStatements, AreParameters, IsFunction, Parses};
+ghost use Rattle.cm_syntax.specs.Refusals.{Syntax, Size, Refusal, IsAnswer};
+ghost use Rattle.cm_syntax.specs.Faults.{Variant, fault_at};
+ghost use Rattle.cm_syntax.specs.Rows.{IsPrintedAs, HasBody, HasFaults, HasFrames, StandsForSlot, IsSoundSource, loops};
+
+/// A text has exactly one list of tokens.
+pub fn one_token_list()
+    ensures some { (bytes : List ℕ) → (tokens : List Placed) × Tokens 0 bytes tokens }
+    ensures one { (bytes : List ℕ) (tokens others : List Placed) → Tokens 0 bytes tokens
+        → Tokens 0 bytes others → tokens ≡ others }
+{}
+
+/// Each nonterminal of the grammar has a member: an expression of each level, statements open and not, and so on.
+pub fn members()
+    ensures expression { (level : ℕ) → level ≤ 12
+        → (tokens : List Placed) × (tree : Expr Name) × IsExpression level tokens tree }
+    ensures call { (tokens : List Placed) × (tree : Call Name) × IsCall tokens tree }
+    ensures declarators { (tokens : List Placed) × (items : List (Item Name)) × AreDeclarators tokens items }
+    ensures target { (tokens : List Placed) × (tree : Target Name) × IsTarget tokens tree }
+    ensures simple { (tokens : List Placed) × (tree : Stmt Name) × IsSimple tokens tree }
+    ensures plain { (is_open : Bool) → (tokens : List Placed) × (tree : Stmt Name) × IsPlain is_open tokens tree }
+    ensures statements { (tokens : List Placed) × (trees : List (Stmt Name)) × AreStatements tokens trees }
+    ensures parameters { (tokens : List Placed) × (items : List (Item Name)) × AreParameters tokens items }
+    ensures function { (tokens : List Placed) × (tree : Function Name) × IsFunction tokens tree }
+    ensures program { (tokens : List Placed) × (functions : List (Function Name)) × Parses tokens functions }
+{}
+
+/// Syntax is refused at one place at most.
+pub fn one_syntax_place()
+    ensures { (bytes : List ℕ) (i j : ℕ) → Syntax bytes i → Syntax bytes j → i ≡ j }
+{}
+
+/// The tokens of some texts: the longest token that fits stands, a comment doesn't nest, and a word that is set
+/// aside or a byte that begins no token fits nowhere.
+pub fn tokens_of_texts()
+    ensures longest { Tokens 0 (codes "a+++b<<=c//d")
+        (placed (Token.name (codes "a")) 0 ∷ placed (Token.sign signs.PlusPlus) 1 ∷
+        placed (Token.sign signs.Plus) 3 ∷ placed (Token.name (codes "b")) 4 ∷
+        placed (Token.sign signs.ShiftLeftAssign) 5 ∷ placed (Token.name (codes "c")) 8 ∷ []) }
+    ensures comment { Tokens 0 (codes "/* /* */ x /*/ y */ z")
+        (placed (Token.name (codes "x")) 9 ∷ placed (Token.name (codes "z")) 20 ∷ []) }
+    ensures words { Tokens 0 (codes "int ints inputs if0 _ 0 10 const")
+        (placed (Token.keyword keywords.Int) 0 ∷ placed (Token.name (codes "ints")) 4 ∷
+        placed (Token.keyword keywords.Inputs) 9 ∷ placed (Token.name (codes "if0")) 16 ∷
+        placed (Token.name (codes "_")) 20 ∷ placed (Token.number 0) 22 ∷
+        placed (Token.number 10) 24 ∷ placed Token.unfit 27 ∷ []) }
+    ensures faulty { Tokens 0 (codes "x # y")
+        (placed (Token.name (codes "x")) 0 ∷ placed Token.unfit 2 ∷ []) }
+{}
+
+/// The trees of some sources, in whole or by their canonical texts: an `else` belongs to the nearest `if`, binary
+/// operators group to the left, and parentheses stand only where they are needed.
+pub fn trees_of_sources()
+    ensures nearest_else { HasBody (codes "int main() { if (1) if (2) ; else ; }") (statement.If
+        (expression.Number (pos 1)) (statement.If (expression.Number (pos 2)) statement.Empty (Some
+        statement.Empty)) None ∷ []) }
+    ensures pointer { IsPrintedAs (codes "int f(int *p){p[0]++;return *p;}")
+        (codes "int f ( int p [ ] ) { * p += 1 ; return * p ; }") }
+    ensures grouped { IsPrintedAs
+        (codes "int main(void) { return (1 + 2) * 3 - ((4 * 5)) - (6 - 7); }")
+        (codes "int main ( ) { return ( 1 + 2 ) * 3 - 4 * 5 - ( 6 - 7 ) ; }") }
+    ensures loop_ { IsPrintedAs
+        (codes "int main() { int i; for (i = 0; ; --i) { while (-i < !2) ; } return i; }")
+        (codes "int main ( ) { int i ; for ( i = 0 ; ; i -= 1 ) { while ( - i < ! 2 ) ; } return i ; }") }
+    ensures spawned { IsPrintedAs
+        (codes "cilk int g(int a[]) { return len(a); } cilk int main() { int x, b[3]; x = spawn g(b); sync; return x; }")
+        (codes "cilk int g ( int a [ ] ) { return len ( a ) ; } cilk int main ( ) { int x , b [ 3 ] ; x = spawn g ( b ) ; sync ; return x ; }") }
+{}
+
+/// Where some sources are refused, and why.
+pub fn refused_sources()
+    ensures empty { IsAnswer (codes "") Refusal.syntax_ 0 }
+    ensures no_brace { IsAnswer (codes "int main() { return 1") Refusal.syntax_ 21 }
+    ensures leading_zero { IsAnswer (codes "012") Refusal.syntax_ 0 }
+    ensures lone_byte { IsAnswer (128 ∷ []) Refusal.syntax_ 0 }
+    ensures unclosed { IsAnswer (codes "/* a") Refusal.syntax_ 0 }
+    ensures reserved { IsAnswer (codes "const int") Refusal.syntax_ 0 }
+    ensures number_and_letter { IsAnswer (codes "12a") Refusal.syntax_ 0 }
+    ensures unclosed_later { IsAnswer (codes "int /*") Refusal.syntax_ 4 }
+    ensures number_for_name { IsAnswer (codes "int 2147483648") Refusal.syntax_ 4 }
+    ensures word_for_name { IsAnswer (codes "int if") Refusal.syntax_ 4 }
+    ensures literal { IsAnswer (codes "int main() { return 2147483648; }") Refusal.size 20 }
+    ensures no_words { IsAnswer (codes "int main() { int a[0]") Refusal.size 19 }
+    ensures many_words { IsAnswer (codes "int main() { int a[16385]") Refusal.size 19 }
+    ensures parentheses { Size (codes "int main() { return " ++ replicate 65 40) 84 }
+    ensures operators { Size (codes "int main() { return " ++ replicate 65 126) 84 }
+    ensures loops { Size (codes "int main() { " ++ loops 64) 525 }
+    ensures too_long { (bytes : List ℕ) → 65536 < length bytes → Size bytes 65536 }
+{}
+
+/// All faults of some sources.
+pub fn faulty_sources()
+    ensures twice { HasFaults (codes "int f() { return 0; } int f() { return 1; } int main() { return 0; }")
+        (fault_at 26 Variant.twice ∷ []) }
+    ensures plain_sync { HasFaults (codes "int main() { sync; return 0; }")
+        (fault_at 13 Variant.kind ∷ []) }
+    ensures no_main { HasFaults (codes "int f() { return 0; }") (fault_at 21 Variant.no_main ∷ []) }
+    ensures unknown { HasFaults (codes "int main() { return y; }")
+        (fault_at 20 Variant.unknown ∷ []) }
+    ensures part_outside { HasFaults (codes "int main() { int a[2]; split a at 1 as l, r { } return len(l); }")
+        (fault_at 59 Variant.unknown ∷ []) }
+    ensures whole_inside { HasFaults (codes "int main() { int a[2]; split a at 1 as l, r { return len(a); } return 0; }")
+        (fault_at 57 Variant.unknown ∷ []) }
+    ensures outer_whole { HasFaults
+        (codes "int main() { int a[2]; { int a[3]; split a at 1 as l, a { a[0] = len(l); } } return 0; }")
+        [] }
+    ensures deeper_whole { HasFaults
+        (codes "int main() { int a[2]; { int a[3]; split a at 1 as l, r { return len(a); } } return 0; }")
+        [] }
+    ensures same_parts { HasFaults (codes "int main() { int a[2]; split a at 1 as l, l { int l; } return 0; }")
+        (fault_at 42 Variant.twice ∷ []) }
+    ensures own_value { HasFaults (codes "int main() { int x = x; return x; }")
+        (fault_at 21 Variant.unknown ∷ []) }
+    ensures for_scope { HasFaults (codes "int main() { for (int i = 0; i < 3; i++) { int i; } return i; }")
+        (fault_at 59 Variant.unknown ∷ []) }
+    ensures parameter_scope { HasFaults (codes "int f(int a, int b) { int b; { int a; } return a; } int main() { return 0; }")
+        (fault_at 26 Variant.twice ∷ []) }
+    ensures arguments { HasFaults (codes "int f(int a[]) { return a[0]; } int main() { int x; return f(x) + f(&x) + f(1, 2); }")
+        (fault_at 59 Variant.kind ∷ fault_at 74 Variant.arity ∷ fault_at 74 Variant.kind ∷ []) }
+    ensures misused { HasFaults (codes "void v() { return 1; } int main() { int x, a[2]; x = a; a = x; x[0] = len(x) + v(); return; }")
+        (fault_at 11 Variant.kind ∷ fault_at 53 Variant.kind ∷ fault_at 56 Variant.kind ∷
+        fault_at 63 Variant.kind ∷ fault_at 74 Variant.kind ∷ fault_at 79 Variant.kind ∷
+        fault_at 84 Variant.kind ∷ []) }
+    ensures unknown_argument { HasFaults (codes "int g(int a) { return a; } int main() { return g(u) + h(u) + g(&u); }")
+        (fault_at 49 Variant.unknown ∷ fault_at 54 Variant.unknown ∷ fault_at 56 Variant.unknown ∷
+        fault_at 61 Variant.kind ∷ fault_at 64 Variant.unknown ∷ []) }
+    ensures wrong_main { HasFaults (codes "int main(int x) { return x; }")
+        (fault_at 4 Variant.kind ∷ []) }
+    ensures many_words { HasFaults (codes "int f(int a[], int b[], int c[], int d[], int e) { return e; } int main() { return 0; }")
+        (fault_at 4 Variant.count ∷ []) }
+    ensures great_frame { HasFaults (codes "int main() { int a[16384], b[16384]; return 0; }")
+        (fault_at 4 Variant.frame ∷ []) }
+{}
+
+/// What some mentions stand for: the slot of a variable by the number of its use in the text.
+pub fn mentions_of_sources()
+    ensures split_whole { StandsForSlot
+        (codes "int main() { int a[2]; { int a[3]; split a at 1 as l, r { return len(a); } } return 0; }")
+        0 1 }
+    ensures split_outer { StandsForSlot
+        (codes "int main() { int a[2]; { int a[3]; split a at 1 as l, r { return len(a); } } return 0; }")
+        2 0 }
+    ensures loop_name { StandsForSlot
+        (codes "int main() { int i; for (int i = 0; i < 3; ) ; return i; }") 0 1 }
+    ensures name_behind_loop { StandsForSlot
+        (codes "int main() { int i; for (int i = 0; i < 3; ) ; return i; }") 2 0 }
+{}
+
+/// The words of the frames of some sources' functions.
+pub fn frames_of_sources()
+    ensures fibonacci { HasFrames (codes "cilk int fib(int n) { int x, y; if (n < 2) return n; x = spawn fib(n - 1); y = spawn fib(n - 2); sync; return x + y; } cilk int main() { int r; r = spawn fib(10); sync; return r; }")
+        (8 ∷ 4 ∷ []) }
+    ensures one_page { HasFrames (codes "int main() { int a[62]; return len(a); }") (64 ∷ []) }
+    ensures two_pages { HasFrames (codes "int main() { int a[63]; return len(a); }") (68 ∷ []) }
+    ensures passed { HasFrames (codes "int f(int a[], int n) { return n; } int main() { int a[1], x; a[0] = 1 + f(a, f(&x, 2)); return 0 && 1; }")
+        (8 ∷ 12 ∷ []) }
+{}
+
+/// Some sources are sound and without faults, so the calls on sound programs can be made.
+pub fn sound_sources()
+    ensures fourteen { IsSoundSource (codes "int main() { return 14; }") }
+    ensures sound_spawn { IsSoundSource
+        (codes "cilk int g(int a[]) { return len(a); } cilk int main() { int x, b[3]; x = spawn g(b); sync; return x; }") }
+{}
