@@ -1,6 +1,7 @@
 //! The program over streams in memory: sources with their answers, and streams that fail.
 use crate::first::one_tree;
 use crate::still::still;
+use cm_syntax::Name;
 use cm_text::{Bytes, List, MemSink, MemSource, Memory};
 use std::alloc::{AllocError, Global};
 use std::test::Fail;
@@ -158,5 +159,13 @@ fn failing_streams(rt: HostRuntime) -> Result<(), Fail> {
     let told = answer(rt.alloc(), &["serial"], source, &broken)?;
     assert_eq!(rt; told.0, 6);
     assert_eq!(rt; told.1.items(), b"valu".as_slice());
+    Ok(())
+}
+
+/// A name is made where there is memory. No command makes one yet.
+#[test]
+fn names(rt: HostRuntime) -> Result<(), Fail> {
+    let name = Name::of(rt.alloc(), b"row_1")?;
+    assert_eq!(rt; name.bytes(), b"row_1".as_slice());
     Ok(())
 }
