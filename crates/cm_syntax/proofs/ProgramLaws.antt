@@ -70,7 +70,7 @@ function_opens f more = by_mark f.cilk_at
     by_mark None = typed f.gives
     by_mark (Some at) = marked
 
-source_opens : (source : Source) → Opening (placed_of (source_tokens source))
+pub source_opens : (source : Source) → Opening (placed_of (source_tokens source))
 source_opens (Source.last f) = subst (λ x. Opening (placed_of x)) (append-nil (definition_tokens f)) (function_opens f [])
 source_opens (Source.before f more) = function_opens f (source_tokens more)
 

@@ -11,10 +11,11 @@ ghost use Rattle.cm_syntax.specs.declared.stmt.Target.{Target};
 ghost use Rattle.cm_syntax.specs.declared.stmt.Stmt.{Stmt};
 ghost use Rattle.cm_syntax.specs.declared.stmt.Stmt.TheVariants as statement;
 ghost use Rattle.cm_syntax.specs.declared.stmt.Function.{Function};
+ghost use Rattle.cm_syntax.specs.declared.stmt.Tree.{Tree};
 ghost use Rattle.cm_syntax.specs.declared.token.Keyword.TheVariants as keywords;
 ghost use Rattle.cm_syntax.specs.declared.token.Sign.TheVariants as signs;
 ghost use Rattle.cm_syntax.specs.Tokens.{Token, Placed, placed, Tokens};
-ghost use Rattle.cm_syntax.specs.Grammar.{IsExpression, IsCall, AreDeclarators, IsTarget, IsSimple, IsPlain, AreStatements, AreParameters, IsFunction, Parses};
+ghost use Rattle.cm_syntax.specs.Grammar.{IsExpression, IsCall, AreDeclarators, IsTarget, IsSimple, IsPlain, AreStatements, AreParameters, IsFunction, Parses, IsSourceOf};
 ghost use Rattle.cm_syntax.specs.Refusals.{Syntax, Size, Refusal, IsAnswer};
 ghost use Rattle.cm_syntax.specs.Faults.{Variant, fault_at};
 ghost use Rattle.cm_syntax.specs.Rows.{IsPrintedAs, HasBody, HasFaults, HasFrames, StandsForSlot, IsSoundSource, loops};
@@ -27,7 +28,7 @@ pub fn one_token_list()
 {}
 
 /// Each nonterminal of the grammar has a member: an expression of each level, statements open and not, and so on.
-pub fn members()
+pub fn grammar_members()
     ensures expression { (level : ℕ) → level ≤ 12
         → (tokens : List Placed) × (tree : Expr Name) × IsExpression level tokens tree }
     ensures call { (tokens : List Placed) × (tree : Call Name) × IsCall tokens tree }
@@ -39,6 +40,13 @@ pub fn members()
     ensures parameters { (tokens : List Placed) × (items : List (Item Name)) × AreParameters tokens items }
     ensures function { (tokens : List Placed) × (tree : Function Name) × IsFunction tokens tree }
     ensures program { (tokens : List Placed) × (functions : List (Function Name)) × Parses tokens functions }
+{}
+
+/// The grammar is unambiguous: tokens are of one list of functions at most, and so a source has one tree at most.
+pub fn one_tree()
+    ensures tokens { (tokens : List Placed) (x y : List (Function Name)) → Parses tokens x
+        → Parses tokens y → x ≡ y }
+    ensures source { (bytes : List ℕ) (x y : Tree) → IsSourceOf bytes x → IsSourceOf bytes y → x ≡ y }
 {}
 
 /// Syntax is refused at one place at most.

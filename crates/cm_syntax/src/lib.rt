@@ -1,6 +1,7 @@
-//! The source language: its trees, and the definitions of its tokens, grammar, names and frames.
+//! The source language: its trees, and the definitions of its tokens, grammar, names and frames with their laws.
 //!
-//! This crate holds plain data and definitions: it reads no text, makes no code and prints nothing.
+//! This crate holds data and definitions, and counts the words of frames: it reads no text, makes no code and
+//! prints nothing.
 #![tactic(auto)]
 
 mod expr;
@@ -13,8 +14,8 @@ mod token;
 pub use expr::{Arg, Call, Expr, Mark, Op};
 pub use frame::{frame_bytes, frame_words};
 pub use laws::{
-    faulty_sources, frames_of_sources, members, mentions_of_sources, one_syntax_place,
-    one_token_list, refused_sources, sound_sources, tokens_of_texts, trees_of_sources,
+    faulty_sources, frames_of_sources, grammar_members, mentions_of_sources, one_syntax_place,
+    one_token_list, one_tree, refused_sources, sound_sources, tokens_of_texts, trees_of_sources,
 };
 pub use name::Name;
 pub use stmt::{Function, Item, Program, Slot, Stmt, Target, Tree};

@@ -4,7 +4,7 @@ use Rattle.cm_syntax.specs.declared.stmt.Stmt.{Stmt}
 use Rattle.cm_syntax.specs.Tokens.{Placed}
 use Rattle.cm_syntax.specs.Grammar.{IsPlain}
 use Rattle.cm_syntax.specs.Trees.{Mark, Expression, Invocation, Any, Declarator, Declarators, Written, Simple, Plain, Statements, Parameters, Definition, Source}
-use Rattle.cm_syntax.proofs.laws.members.Goals as goal
+use Rattle.cm_syntax.proofs.laws.grammar_members.Goals as goal
 
 abbrev x : Mark
 x = record { name = codes "x"; at = 0 }
