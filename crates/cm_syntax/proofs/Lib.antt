@@ -15,3 +15,5 @@ pub mod AnswerLaws
 pub mod Reading
 pub mod OneTree
 pub mod OneProgram
+pub mod OneAnswer
+pub mod NameLaws

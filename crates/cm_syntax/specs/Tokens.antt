@@ -68,14 +68,14 @@ IsApart _ rest = ⊤
 
 -- ---- comments
 
--- `//` and what follows it in its line; the line feed isn't in it
+-- `//` and what follows it in its line: a line feed or the end of the text follows, and isn't in it
 pub record IsLineComment (text rest : List ℕ) : Type 0 where
   pub line : List ℕ
   pub opens : text ≡ codes "//" ++ line
   pub one_line : list_all (λ byte. not (byte == 10)) line ≡ true
   pub ends : DoesNotBegin (λ byte. not (byte == 10)) rest
 
--- `/*` and what follows it up to the next `*/`
+-- `/*` and what follows it up to the next `*/`: whichever `*/` stands behind the `/*`, nothing of the comment follows it
 pub record IsBlockComment (text : List ℕ) : Type 0 where
   pub inside : List ℕ
   pub opens : text ≡ codes "/*" ++ (inside ++ codes "*/")

@@ -1,7 +1,7 @@
 //! Laws of the definitions, and single texts worked out by hand with which they have to agree. The functions do
 //! nothing: their contracts are the laws.
 
-ghost use Rattle.std.specs.Prelude.{◌≡◌, ◌≤◌, ◌<◌, ◌++◌, [], ◌∷◌, ℕ, List, Bool, pos, length, codes, replicate, Some, None};
+ghost use Rattle.std.specs.Prelude.{◌≡◌, ◌≤◌, ◌<◌, ◌++◌, [], ◌∷◌, ℕ, List, Bool, pos, length, codes, replicate, slice_get, Some, None};
 ghost use Rattle.cm_syntax.specs.declared.name.Name.{Name};
 ghost use Rattle.cm_syntax.specs.declared.expr.Expr.{Expr};
 ghost use Rattle.cm_syntax.specs.declared.expr.Expr.TheVariants as expression;
@@ -17,7 +17,8 @@ ghost use Rattle.cm_syntax.specs.declared.token.Sign.TheVariants as signs;
 ghost use Rattle.cm_syntax.specs.Tokens.{Token, Placed, placed, Tokens};
 ghost use Rattle.cm_syntax.specs.Grammar.{IsExpression, IsCall, AreDeclarators, IsTarget, IsSimple, IsPlain, AreStatements, AreParameters, IsFunction, Parses, IsSourceOf};
 ghost use Rattle.cm_syntax.specs.Refusals.{Syntax, Size, Refusal, IsAnswer};
-ghost use Rattle.cm_syntax.specs.Faults.{Variant, fault_at};
+ghost use Rattle.cm_syntax.specs.Names.{Variable, Stands, function_slots};
+ghost use Rattle.cm_syntax.specs.Faults.{Variant, fault_at, IsNameAnswer};
 ghost use Rattle.cm_syntax.specs.Rows.{IsPrintedAs, HasBody, HasFaults, HasFrames, StandsForSlot, IsSoundSource, loops};
 
 /// A text has exactly one list of tokens.
@@ -52,6 +53,20 @@ pub fn one_tree()
 /// Syntax is refused at one place at most.
 pub fn one_syntax_place()
     ensures { (bytes : List ℕ) (i j : ℕ) → Syntax bytes i → Syntax bytes j → i ≡ j }
+{}
+
+/// A source is answered with one refusal at one place at most, and so is a tree with a fault.
+pub fn one_answer()
+    ensures source { (bytes : List ℕ) (r s : Refusal) (i j : ℕ) → IsAnswer bytes r i
+        → IsAnswer bytes s j → (r ≡ s) × (i ≡ j) }
+    ensures names { (tree : Tree) (i j : ℕ) (u v : Variant) → IsNameAnswer tree i u
+        → IsNameAnswer tree j v → (i ≡ j) × (u ≡ v) }
+{}
+
+/// What a mention stands for has its slot among the slots of its function, and the slot is of its kind.
+pub fn slots_of_mentions()
+    ensures { (f : Function Name) (i : ℕ) (v : Variable) → Stands f i v
+        → slice_get (function_slots f) v.slot ≡ Some v.kind }
 {}
 
 /// The tokens of some texts: the longest token that fits stands, a comment doesn't nest, and a word that is set
