@@ -1,8 +1,7 @@
 -- What a mention stands for has its slot among the slots of its function.
-use Rattle.std.proofs.Common.{◌≡◌, ◌≢◌, ℕ, zero, suc, ◌+◌, ◌<◌, ◌≤◌, Bool, true, false, List, [], ◌∷◌, ◌++◌, length, refl, sym, ap, ◌∙◌, subst, arith, Option, None, Some, ◌⊎◌, inl, inr, append_assoc, append-nil, length-append, if◌then◌else◌, cond}
+use Rattle.std.proofs.Common.{◌≡◌, ℕ, zero, suc, Bool, true, false, List, [], ◌∷◌, ◌++◌, length, refl, sym, ap, ◌∙◌, subst, arith, Option, None, Some, append_assoc, append-nil, length-append, if◌then◌else◌, cond}
 use Rattle.std.specs.Prelude.{⊤, map, slice_get}
-use Rattle.std.specs.List.{find, list_any}
-use Rattle.std.proofs.lemmas.Bool.{true≢false}
+use Rattle.std.specs.List.{list_any}
 use Rattle.cm_syntax.specs.declared.name.Name.{Name}
 use Rattle.cm_syntax.specs.declared.expr.Mark.{Mark}
 use Rattle.cm_syntax.specs.declared.expr.Expr.{Expr}
@@ -20,7 +19,7 @@ use Rattle.cm_syntax.specs.declared.stmt.Stmt.TheVariants as statement
 use Rattle.cm_syntax.specs.declared.stmt.Function.{Function}
 use Rattle.cm_syntax.specs.Shape.{Joined, Prefixed, Element, InputAt, IfAlone, IfElse, WhileLoop, ForLoop}
 use Rattle.cm_syntax.specs.Text.{is_same}
-use Rattle.cm_syntax.specs.Names.{Variable, Scope, named, without, within, declared_in, parts_in, statement_slots, statements_slots, body_slots, function_slots, after_items, past, after, Role, Use, mention, calls, again, parallel, returns, uses_name, expression_uses, arguments_uses, argument_uses, optional_uses, call_uses, target_uses, again_uses, items_uses, spawn_uses, statement_uses, statements_uses, body_uses, function_uses, outermost, Stands}
+use Rattle.cm_syntax.specs.Names.{Variable, Scope, named, without, within, declared_in, parts_in, statement_slots, statements_slots, body_slots, function_slots, after_items, past, after, Use, mention, again, expression_uses, arguments_uses, argument_uses, optional_uses, call_uses, target_uses, again_uses, items_uses, spawn_uses, statement_uses, statements_uses, body_uses, function_uses, outermost, Stands}
 
 -- ---- each of a list's elements
 

@@ -217,6 +217,39 @@ pub unknown_argument_row : HasFaults (codes "int g(int a) { return a; } int main
 unfolding digits Rattle.cm_syntax.specs.declared.expr.Arg.TheBlock.shape-the_row-Expr-0 Rattle.cm_syntax.specs.declared.expr.Arg.TheBlock.hidden-the_row-Expr-0 Rattle.cm_syntax.specs.declared.expr.Arg.TheBlock.shape-the_row-Arg-1 Rattle.cm_syntax.specs.declared.expr.Arg.TheBlock.hidden-the_row-Arg-1 Rattle.cm_syntax.specs.declared.stmt.Stmt.TheBlock.shape-the_row-Stmt-0 Rattle.cm_syntax.specs.declared.stmt.Stmt.TheBlock.hidden-the_row-Stmt-0 Rattle.cm_syntax.specs.declared.stmt.Stmt.TheBlock.shape-the_row-Stmt-1 Rattle.cm_syntax.specs.declared.stmt.Stmt.TheBlock.hidden-the_row-Stmt-1 denote.Hole.Carrier.hidden
 unknown_argument_row = (tree_of unknown_argument_source 69, (placed_of (source_tokens unknown_argument_source), tokens_of (codes "int g(int a) { return a; } int main() { return g(u) + h(u) + g(&u); }"), (unknown_argument_source, refl, refl), refl), refl)
 
+abbrev destinations_source : Source
+destinations_source = Source.before (definition None false 0 (mark (codes "g") 5) 6 (Parameters.several (Several.last (Parameter.slice 7 (mark (codes
+    "a") 11) 12 13))) 14 16 (Statements.plain (Plain.return 18 None 24) Statements.none) 26) (Source.last (definition (Some 28) true 33 (mark (codes
+    "main") 37) 41 Parameters.none 42 44 (Statements.declare (record {
+      int_at = 46;
+      declarators = (Declarators.before (Declarator.scalar (mark (codes
+          "x") 50)) 51 (Declarators.last (Declarator.array (mark (codes "a") 53) 54 55 2 56)));
+    }) 57 (Statements.plain (Plain.split 59 (mark (codes "x") 65)
+    67 (Any.any (Expression.literal 70 0)) 72 (mark (codes "l") 75) 76 (mark (codes "r") 78) 80 Statements.none 82) (Statements.plain (Plain.simple
+    (Simple.call (Invocation.with_ (mark (codes "g") 84) 85 (Arguments.last (Argument.address 86 (mark (codes "a") 87))) 88)) 89) (Statements.plain
+    (Plain.spawn_into (mark (codes "a") 91) 93 95 (Invocation.with_ (mark (codes "g") 101) 102 (Arguments.last (Argument.value (Expression.variable
+    (mark (codes "a") 103)))) 104) 105) (Statements.plain (Plain.spawn_into (mark (codes "x") 107) 109 111 (Invocation.with_ (mark (codes "g") 117)
+    118 (Arguments.last (Argument.address 119 (mark (codes "x") 120))) 121) 122) (Statements.plain (Plain.spawn 124 (Invocation.with_ (mark (codes
+    "g") 130) 131 (Arguments.last (Argument.address 132 (mark (codes "x") 133))) 134) 135) (Statements.plain (Plain.sync 137 141) (Statements.plain
+    (Plain.return 143 (Some (Any.any (Expression.literal 150 0))) 151) Statements.none)))))))) 153))
+
+pub destinations_row : HasFaults (codes "void g(int a[]) { return; } cilk int main() { int x, a[2]; split x at 0 as l, r { } g(&a); a = spawn g(a); x = spawn g(&x); spawn g(&x); sync; return 0; }") (record { at = 65; variant = Variant.kind } ∷ record { at = 87; variant = Variant.kind } ∷ record { at = 91; variant = Variant.kind } ∷ record { at = 101; variant = Variant.kind } ∷ record { at = 117; variant = Variant.kind } ∷ [])
+unfolding digits Rattle.cm_syntax.specs.declared.expr.Arg.TheBlock.shape-the_row-Expr-0 Rattle.cm_syntax.specs.declared.expr.Arg.TheBlock.hidden-the_row-Expr-0 Rattle.cm_syntax.specs.declared.expr.Arg.TheBlock.shape-the_row-Arg-1 Rattle.cm_syntax.specs.declared.expr.Arg.TheBlock.hidden-the_row-Arg-1 Rattle.cm_syntax.specs.declared.stmt.Stmt.TheBlock.shape-the_row-Stmt-0 Rattle.cm_syntax.specs.declared.stmt.Stmt.TheBlock.hidden-the_row-Stmt-0 Rattle.cm_syntax.specs.declared.stmt.Stmt.TheBlock.shape-the_row-Stmt-1 Rattle.cm_syntax.specs.declared.stmt.Stmt.TheBlock.hidden-the_row-Stmt-1 denote.Hole.Carrier.hidden
+destinations_row = (tree_of destinations_source 154, (placed_of (source_tokens destinations_source), tokens_of (codes "void g(int a[]) { return; } cilk int main() { int x, a[2]; split x at 0 as l, r { } g(&a); a = spawn g(a); x = spawn g(&x); spawn g(&x); sync; return 0; }"), (destinations_source, refl, refl), refl), refl)
+
+abbrev void_main_source : Source
+void_main_source = Source.before (definition None true 0 (mark (codes "h") 4) 5 (Parameters.several (Several.last (Parameter.scalar 6 (mark (codes
+    "v") 10)))) 11 13 (Statements.plain (Plain.spawn 15 (Invocation.with_ (mark (codes "h") 21) 22 (Arguments.last (Argument.value
+    (Expression.variable (mark (codes "v") 23)))) 24) 25) (Statements.plain (Plain.return 27 (Some (Any.any (Expression.variable (mark (codes "v")
+    34)))) 35) Statements.none)) 37) (Source.last (definition None false 39 (mark (codes "main") 44) 48 Parameters.none 49 51 (Statements.declare
+    (record { int_at = 53; declarators = (Declarators.last (Declarator.array (mark (codes "a") 57) 58 59 1 60)) }) 61 (Statements.plain (Plain.simple
+    (Simple.call (Invocation.with_ (mark (codes "h") 63) 64 (Arguments.last (Argument.address 65 (mark (codes "a") 66))) 67)) 68) Statements.none))
+    70))
+
+pub void_main_row : HasFaults (codes "int h(int v) { spawn h(v); return v; } void main() { int a[1]; h(&a); }") (record { at = 15; variant = Variant.kind } ∷ record { at = 44; variant = Variant.kind } ∷ record { at = 63; variant = Variant.kind } ∷ record { at = 66; variant = Variant.kind } ∷ [])
+unfolding digits Rattle.cm_syntax.specs.declared.expr.Arg.TheBlock.shape-the_row-Expr-0 Rattle.cm_syntax.specs.declared.expr.Arg.TheBlock.hidden-the_row-Expr-0 Rattle.cm_syntax.specs.declared.expr.Arg.TheBlock.shape-the_row-Arg-1 Rattle.cm_syntax.specs.declared.expr.Arg.TheBlock.hidden-the_row-Arg-1 Rattle.cm_syntax.specs.declared.stmt.Stmt.TheBlock.shape-the_row-Stmt-0 Rattle.cm_syntax.specs.declared.stmt.Stmt.TheBlock.hidden-the_row-Stmt-0 Rattle.cm_syntax.specs.declared.stmt.Stmt.TheBlock.shape-the_row-Stmt-1 Rattle.cm_syntax.specs.declared.stmt.Stmt.TheBlock.hidden-the_row-Stmt-1 denote.Hole.Carrier.hidden
+void_main_row = (tree_of void_main_source 71, (placed_of (source_tokens void_main_source), tokens_of (codes "int h(int v) { spawn h(v); return v; } void main() { int a[1]; h(&a); }"), (void_main_source, refl, refl), refl), refl)
+
 abbrev wrong_main_source : Source
 wrong_main_source = Source.last (definition None true 0 (mark (codes "main") 4) 8 (Parameters.several (Several.last (Parameter.scalar 9 (mark (codes
     "x") 13)))) 14 16 (Statements.plain (Plain.return 18 (Some (Any.any (Expression.variable (mark (codes "x") 25)))) 26) Statements.none) 28)

@@ -112,6 +112,33 @@ unfolding digits Rattle.cm_syntax.specs.declared.expr.Arg.TheBlock.shape-the_row
 spawned_row =
     (tree_of spawned_source 103, (placed_of (source_tokens spawned_source), tokens_of (codes "cilk int g(int a[]) { return len(a); } cilk int main() { int x, b[3]; x = spawn g(b); sync; return x; }"), (spawned_source, refl, refl), refl), refl)
 
+abbrev constructs_source : Source
+constructs_source = Source.last (definition None false 0 (mark (codes "f") 5) 6 (Parameters.several (Several.before (Parameter.slice 7 (mark (codes
+    "a") 11) 12 13) 14 (Several.last (Parameter.scalar 15 (mark (codes "n") 19))))) 20 21 (Statements.plain (Plain.if_else 22 24 (Any.any
+    (Expression.variable (mark (codes "n") 25))) 26 (Plain.simple (Simple.call (Invocation.with_ (mark (codes "f") 27) 28 (Arguments.before
+    (Argument.value (Expression.variable (mark (codes "a") 29))) 30 (Arguments.last (Argument.value (Expression.joined op.Sub refl
+    (Expression.variable (mark (codes "n") 31)) (omega arith) 32 (Expression.literal 33 1) (omega arith))))) 34)) 35) 36 (Plain.if_else 41 43 (Any.any
+    (Expression.prefixed op.Not refl 44 (Expression.variable (mark (codes "n") 45)) (omega arith))) 46 (Plain.empty 47) 48 (Plain.block 52
+    (Statements.plain (Plain.return 53 None 59) Statements.none) 60))) (Statements.plain (Plain.split 61 (mark (codes "a") 67) 69 (Any.any
+    (Expression.input 72 77 (Expression.variable (mark (codes "n") 78)) 79)) 81 (mark (codes "l") 84) 85 (mark (codes "r") 86) 87 (Statements.plain
+    (Plain.print 88 93 (Any.any (Expression.inputs 94 100 101)) 102 103) Statements.none) 104) (Statements.plain (Plain.for 105 108 (First.declare
+    (record {
+      int_at = 109;
+      declarators = (Declarators.before (Declarator.set (mark (codes "k") 113) 114 (Any.any (Expression.literal 115 0))) 116
+          (Declarators.last (Declarator.array (mark (codes "m") 117) 118 119 2 120)));
+    })) 121 (Some (Any.any (Expression.joined op.Lt refl
+    (Expression.variable (mark (codes "k") 122)) (omega arith) 123 (Expression.len 124 127 (mark (codes "a") 128) 129) (omega arith)))) 130 (Some
+    (Simple.step_after (Written.scalar (mark (codes "k") 131)) true 132)) 134 (Plain.simple (Simple.update (Written.element (mark (codes "a") 135) 136
+    (Any.any (Expression.joined op.Add refl (Expression.variable (mark (codes "k") 137)) (omega arith) 138 (Expression.literal 139 1) (omega arith)))
+    140) op.Shl refl 141 (Any.any (Expression.pointee 144 (mark (codes "a") 145)))) 146)) (Statements.plain (Plain.spawn 147 (Invocation.with_ (mark
+    (codes "f") 153) 154 (Arguments.before (Argument.address 155 (mark (codes "n") 156)) 157 (Arguments.last (Argument.value (Expression.variable
+    (mark (codes "n") 158))))) 159) 160) Statements.none)))) 161)
+
+pub constructs_row : IsPrintedAs (codes "void f(int a[],int n){if(n)f(a,n-1);else if(!n);else{return;}split a at input(n) as l,r{print(inputs());}for(int k=0,m[2];k<len(a);k++)a[k+1]<<=*a;spawn f(&n,n);}") (codes "void f ( int a [ ] , int n ) { if ( n ) f ( a , n - 1 ) ; else if ( ! n ) ; else { return ; } split a at input ( n ) as l , r { print ( inputs ( ) ) ; } for ( int k = 0 , m [ 2 ] ; k < len ( a ) ; k += 1 ) a [ k + 1 ] <<= * a ; spawn f ( & n , n ) ; }")
+unfolding digits Rattle.cm_syntax.specs.declared.expr.Arg.TheBlock.shape-the_row-Expr-0 Rattle.cm_syntax.specs.declared.expr.Arg.TheBlock.hidden-the_row-Expr-0 Rattle.cm_syntax.specs.declared.expr.Arg.TheBlock.shape-the_row-Arg-1 Rattle.cm_syntax.specs.declared.expr.Arg.TheBlock.hidden-the_row-Arg-1 Rattle.cm_syntax.specs.declared.stmt.Stmt.TheBlock.shape-the_row-Stmt-0 Rattle.cm_syntax.specs.declared.stmt.Stmt.TheBlock.hidden-the_row-Stmt-0 Rattle.cm_syntax.specs.declared.stmt.Stmt.TheBlock.shape-the_row-Stmt-1 Rattle.cm_syntax.specs.declared.stmt.Stmt.TheBlock.hidden-the_row-Stmt-1 denote.Hole.Carrier.hidden
+constructs_row =
+    (tree_of constructs_source 162, (placed_of (source_tokens constructs_source), tokens_of (codes "void f(int a[],int n){if(n)f(a,n-1);else if(!n);else{return;}split a at input(n) as l,r{print(inputs());}for(int k=0,m[2];k<len(a);k++)a[k+1]<<=*a;spawn f(&n,n);}"), (constructs_source, refl, refl), refl), refl)
+
 -- ---- syntax
 
 -- a program that the fronts below begin

@@ -104,6 +104,9 @@ pub fn trees_of_sources()
     ensures spawned { IsPrintedAs
         (codes "cilk int g(int a[]) { return len(a); } cilk int main() { int x, b[3]; x = spawn g(b); sync; return x; }")
         (codes "cilk int g ( int a [ ] ) { return len ( a ) ; } cilk int main ( ) { int x , b [ 3 ] ; x = spawn g ( b ) ; sync ; return x ; }") }
+    ensures constructs { IsPrintedAs
+        (codes "void f(int a[],int n){if(n)f(a,n-1);else if(!n);else{return;}split a at input(n) as l,r{print(inputs());}for(int k=0,m[2];k<len(a);k++)a[k+1]<<=*a;spawn f(&n,n);}")
+        (codes "void f ( int a [ ] , int n ) { if ( n ) f ( a , n - 1 ) ; else if ( ! n ) ; else { return ; } split a at input ( n ) as l , r { print ( inputs ( ) ) ; } for ( int k = 0 , m [ 2 ] ; k < len ( a ) ; k += 1 ) a [ k + 1 ] <<= * a ; spawn f ( & n , n ) ; }") }
 {}
 
 /// Where some sources are refused, and why.
@@ -163,6 +166,10 @@ pub fn faulty_sources()
     ensures unknown_argument { HasFaults (codes "int g(int a) { return a; } int main() { return g(u) + h(u) + g(&u); }")
         (fault_at 49 Variant.unknown ∷ fault_at 54 Variant.unknown ∷ fault_at 56 Variant.unknown ∷
         fault_at 61 Variant.kind ∷ fault_at 64 Variant.unknown ∷ []) }
+    ensures destinations { HasFaults (codes "void g(int a[]) { return; } cilk int main() { int x, a[2]; split x at 0 as l, r { } g(&a); a = spawn g(a); x = spawn g(&x); spawn g(&x); sync; return 0; }")
+        (fault_at 65 Variant.kind ∷ fault_at 87 Variant.kind ∷ fault_at 91 Variant.kind ∷ fault_at 101 Variant.kind ∷ fault_at 117 Variant.kind ∷ []) }
+    ensures void_main { HasFaults (codes "int h(int v) { spawn h(v); return v; } void main() { int a[1]; h(&a); }")
+        (fault_at 15 Variant.kind ∷ fault_at 44 Variant.kind ∷ fault_at 63 Variant.kind ∷ fault_at 66 Variant.kind ∷ []) }
     ensures wrong_main { HasFaults (codes "int main(int x) { return x; }")
         (fault_at 4 Variant.kind ∷ []) }
     ensures many_words { HasFaults (codes "int f(int a[], int b[], int c[], int d[], int e) { return e; } int main() { return 0; }")

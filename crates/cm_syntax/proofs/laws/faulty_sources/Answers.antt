@@ -1,4 +1,4 @@
-use Rattle.cm_syntax.proofs.NameRows.{twice_row, plain_sync_row, no_main_row, unknown_row, part_outside_row, whole_inside_row, outer_whole_row, deeper_whole_row, same_parts_row, own_value_row, for_scope_row, parameter_scope_row, arguments_row, misused_row, unknown_argument_row, wrong_main_row, many_words_row, great_frame_row}
+use Rattle.cm_syntax.proofs.NameRows.{twice_row, plain_sync_row, no_main_row, unknown_row, part_outside_row, whole_inside_row, outer_whole_row, deeper_whole_row, same_parts_row, own_value_row, for_scope_row, parameter_scope_row, arguments_row, misused_row, unknown_argument_row, destinations_row, void_main_row, wrong_main_row, many_words_row, great_frame_row}
 use Rattle.cm_syntax.proofs.laws.faulty_sources.Goals as goal
 
 pub returns-clause-twice : goal.returns-clause-twice
@@ -45,6 +45,12 @@ returns-clause-misused c = misused_row
 
 pub returns-clause-unknown_argument : goal.returns-clause-unknown_argument
 returns-clause-unknown_argument c = unknown_argument_row
+
+pub returns-clause-destinations : goal.returns-clause-destinations
+returns-clause-destinations c = destinations_row
+
+pub returns-clause-void_main : goal.returns-clause-void_main
+returns-clause-void_main c = void_main_row
 
 pub returns-clause-wrong_main : goal.returns-clause-wrong_main
 returns-clause-wrong_main c = wrong_main_row

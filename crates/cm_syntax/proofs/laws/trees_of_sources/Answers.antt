@@ -1,4 +1,4 @@
-use Rattle.cm_syntax.proofs.SourceRows.{else_row, pointer_row, grouped_row, loop_row, spawned_row}
+use Rattle.cm_syntax.proofs.SourceRows.{else_row, pointer_row, grouped_row, loop_row, spawned_row, constructs_row}
 use Rattle.cm_syntax.proofs.laws.trees_of_sources.Goals as goal
 
 pub returns-clause-nearest_else : goal.returns-clause-nearest_else
@@ -15,3 +15,6 @@ returns-clause-loop_ c = loop_row
 
 pub returns-clause-spawned : goal.returns-clause-spawned
 returns-clause-spawned c = spawned_row
+
+pub returns-clause-constructs : goal.returns-clause-constructs
+returns-clause-constructs c = constructs_row
