@@ -62,7 +62,7 @@ whole_front test (b ∷ text) rest h n =
     let parts = and_parts (test b) (list_all test text) h in
     rw parts.0 (ap (λ more. b ∷ more) (whole_front test text rest parts.1 n))
 
-begins_all : (test : ℕ → Bool) (text : List ℕ) → 0 < length text → list_all test text ≡ true → begins test text ≡ true
+pub begins_all : (test : ℕ → Bool) (text : List ℕ) → 0 < length text → list_all test text ≡ true → begins test text ≡ true
 begins_all test [] some h = absurd (omega arith)
 begins_all test (b ∷ text) some h = (and_parts (test b) (list_all test text) h).0
 
@@ -206,7 +206,7 @@ no_comment_there : (bytes : List ℕ) → begins is_word_byte bytes ≡ true →
 no_comment_there bytes b (rest, inl e) = no_slash rest bytes 47 b e
 no_comment_there bytes b (rest, inr e) = no_slash rest bytes 42 b e
 
-run_apart : (t : Token) (rest : List ℕ) → DoesNotBegin is_word_byte rest → IsApart t rest
+pub run_apart : (t : Token) (rest : List ℕ) → DoesNotBegin is_word_byte rest → IsApart t rest
 run_apart (Token.keyword k) rest h = tt
 run_apart (Token.sign s) rest h = tt
 run_apart (Token.name x) rest h = tt

@@ -17,3 +17,9 @@ pub mod OneTree
 pub mod OneProgram
 pub mod OneAnswer
 pub mod NameLaws
+pub mod Laying
+pub mod TextLaws
+pub mod Printing
+pub mod StatementPrinting
+pub mod SoundTokens
+pub mod ProgramPrinting

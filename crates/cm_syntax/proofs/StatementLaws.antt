@@ -11,19 +11,19 @@ use Rattle.cm_syntax.specs.Frame.{temporaries, optional_temporaries, statement_t
 
 -- ---- the variants as the code makes them
 
-If-Alone : (test : Expr ℕ) (chosen : Stmt ℕ) → If test chosen None ≡ IfAlone test chosen
+pub If-Alone : {N : Type 0} (test : Expr N) (chosen : Stmt N) → If test chosen None ≡ IfAlone test chosen
 unfolding Rattle.cm_syntax.specs.declared.stmt.Stmt.TheBlock.shape-the_row-Stmt-0 Rattle.cm_syntax.specs.declared.stmt.Stmt.TheBlock.hidden-the_row-Stmt-0 denote.Hole.Carrier.hidden
 If-Alone test chosen = refl
 
-If-Else : (test : Expr ℕ) (chosen other : Stmt ℕ) → If test chosen (Some other) ≡ IfElse test chosen other
+pub If-Else : {N : Type 0} (test : Expr N) (chosen other : Stmt N) → If test chosen (Some other) ≡ IfElse test chosen other
 unfolding Rattle.cm_syntax.specs.declared.stmt.Stmt.TheBlock.shape-the_row-Stmt-0 Rattle.cm_syntax.specs.declared.stmt.Stmt.TheBlock.hidden-the_row-Stmt-0 denote.Hole.Carrier.hidden
 If-Else test chosen other = refl
 
-While-Loop : (test : Expr ℕ) (body : Stmt ℕ) → While test body ≡ WhileLoop test body
+pub While-Loop : {N : Type 0} (test : Expr N) (body : Stmt N) → While test body ≡ WhileLoop test body
 unfolding Rattle.cm_syntax.specs.declared.stmt.Stmt.TheBlock.shape-the_row-Stmt-0 Rattle.cm_syntax.specs.declared.stmt.Stmt.TheBlock.hidden-the_row-Stmt-0 denote.Hole.Carrier.hidden
 While-Loop test body = refl
 
-For-Loop : (first : Stmt ℕ) (test : Option (Expr ℕ)) (step body : Stmt ℕ) → For first test step body ≡ ForLoop first test step body
+pub For-Loop : {N : Type 0} (first : Stmt N) (test : Option (Expr N)) (step body : Stmt N) → For first test step body ≡ ForLoop first test step body
 unfolding Rattle.cm_syntax.specs.declared.stmt.Stmt.TheBlock.shape-the_row-Stmt-0 Rattle.cm_syntax.specs.declared.stmt.Stmt.TheBlock.hidden-the_row-Stmt-0 denote.Hole.Carrier.hidden
 For-Loop first test step body = refl
 

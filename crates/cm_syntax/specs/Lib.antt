@@ -10,6 +10,7 @@ pub mod Meaning
 pub mod Grammar
 pub mod Refusals
 pub mod Canonical
+pub mod Places
 pub mod Names
 pub mod Faults
 pub mod Rows

@@ -16,7 +16,9 @@ ghost use Rattle.cm_syntax.specs.declared.token.Keyword.TheVariants as keywords;
 ghost use Rattle.cm_syntax.specs.declared.token.Sign.TheVariants as signs;
 ghost use Rattle.cm_syntax.specs.Tokens.{Token, Placed, placed, Tokens};
 ghost use Rattle.cm_syntax.specs.Grammar.{IsExpression, IsCall, AreDeclarators, IsTarget, IsSimple, IsPlain, AreStatements, AreParameters, IsFunction, Parses, IsSourceOf};
-ghost use Rattle.cm_syntax.specs.Refusals.{Syntax, Size, Refusal, IsAnswer};
+ghost use Rattle.cm_syntax.specs.Refusals.{Syntax, Size, Refusal, IsAnswer, IsSoundTree};
+ghost use Rattle.cm_syntax.specs.Canonical.{canonical};
+ghost use Rattle.cm_syntax.specs.Places.{without_places};
 ghost use Rattle.cm_syntax.specs.Names.{Variable, Stands, function_slots};
 ghost use Rattle.cm_syntax.specs.Faults.{Variant, fault_at, IsNameAnswer};
 ghost use Rattle.cm_syntax.specs.Rows.{IsPrintedAs, HasBody, HasFaults, HasFrames, StandsForSlot, IsSoundSource, loops};
@@ -67,6 +69,12 @@ pub fn one_answer()
 pub fn slots_of_mentions()
     ensures { (f : Function Name) (i : ℕ) (v : Variable) → Stands f i v
         → slice_get (function_slots f) v.slot ≡ Some v.kind }
+{}
+
+/// The canonical text of a sound tree is a source text of the same tree, in all but the places and the length.
+pub fn canonical_source()
+    ensures { (tree : Tree) → IsSoundTree tree
+        → (again : Tree) × IsSourceOf (canonical tree) again × (without_places again ≡ without_places tree) }
 {}
 
 /// The tokens of some texts: the longest token that fits stands, a comment doesn't nest, and a word that is set
