@@ -11,7 +11,7 @@ use Rattle.std.proofs.lemmas.Fmt.{decimal_digit, decimal_nonempty, first_decimal
 use Rattle.std.proofs.lemmas.Str.Parse.{numerals_by_value, tells_all_ascii_digits}
 use Rattle.cm_syntax.specs.declared.token.Sign.{Sign}
 use Rattle.cm_syntax.specs.Text.{is_space, is_word_byte, is_same, sign_text}
-use Rattle.cm_syntax.specs.Tokens.{Token, Placed, placed, DoesNotBegin, begins, IsName, IsNumber, Spells, OpensComment, Stands, Tokens}
+use Rattle.cm_syntax.specs.Tokens.{Token, Placed, placed, DoesNotBegin, begins, IsName, IsNumber, Spells, OpensComment, IsFirstToken, Tokens}
 use Rattle.cm_syntax.specs.Canonical.{token_text}
 use Rattle.cm_syntax.proofs.Spelling.{all_signs, sign_written-text}
 use Rattle.cm_syntax.proofs.TokenLaws.{word_no_space, word_or_sign, token_some}
@@ -157,7 +157,7 @@ longest_there text rest longer less black no_more all parts =
     )
 
 -- a writable token stands there
-writable_stands : (t : Token) (rest : List ℕ) → Writable t → DoesNotBegin is_black rest → Stands (token_text t ++ rest) t (token_text t) rest
+writable_stands : (t : Token) (rest : List ℕ) → Writable t → DoesNotBegin is_black rest → IsFirstToken (token_text t ++ rest) t (token_text t) rest
 writable_stands t rest h black =
     let spelled = writable_spelled t h in
     let black_text = token_bytes t (token_text t) spelled in
@@ -175,7 +175,7 @@ writable_stands t rest h black =
 pub laid_tokens : (at : ℕ) (ts : List Token) → AllWritable ts → Tokens at (join_with_byte 32 (map token_text ts)) (laid at ts)
 laid_tokens at [] h = Tokens.end
 laid_tokens at (t ∷ []) h =
-    Tokens.token (subst (λ bytes. Stands bytes t (token_text t) []) (append-nil (token_text t)) (writable_stands t [] h.0 tt)) Tokens.end
+    Tokens.token (subst (λ bytes. IsFirstToken bytes t (token_text t) []) (append-nil (token_text t)) (writable_stands t [] h.0 tt)) Tokens.end
 laid_tokens at (t ∷ u ∷ ts) h =
     let stands = writable_stands t (32 ∷ join_with_byte 32 (map token_text (u ∷ ts))) h.0 refl in
     Tokens.token stands (Tokens.space refl (laid_tokens (behind at t) (u ∷ ts) h.1))

@@ -11,7 +11,7 @@ use Rattle.std.proofs.lemmas.Bool.Decides.{nat_tests}
 use Rattle.cm_syntax.specs.declared.token.Keyword.{Keyword}
 use Rattle.cm_syntax.specs.declared.token.Sign.{Sign}
 use Rattle.cm_syntax.specs.Text.{is_space, is_letter, is_word_byte, is_same, keyword_text, sign_text}
-use Rattle.cm_syntax.specs.Tokens.{Token, Placed, DoesNotBegin, begins, is_reserved, IsNumber, Spells, IsApart, IsComment, OpensComment, Stands, IsFaulty, Tokens}
+use Rattle.cm_syntax.specs.Tokens.{Token, Placed, DoesNotBegin, begins, is_reserved, IsNumber, Spells, IsApart, IsComment, OpensComment, IsFirstToken, IsFaulty, Tokens}
 use Rattle.cm_syntax.proofs.Spelling.{all_keywords, all_signs, keyword_written, keyword_written-text, keyword_begins, reserved_begins, sign_written, sign_written-text, sign_short, sign_begins, is_same-equal}
 use Rattle.cm_syntax.proofs.TokenLaws.{word_or_sign, token_some, digits_in_word, comment_opens, dropped}
 
@@ -214,7 +214,7 @@ run_apart (Token.number n) rest h = h
 run_apart Token.unfit rest h = tt
 
 run_stands : (bytes : List ℕ) (t : Token) → begins is_word_byte bytes ≡ true → run_token (front is_word_byte bytes) ≡ Some t →
-    Stands bytes t (front is_word_byte bytes) (behind is_word_byte bytes)
+    IsFirstToken bytes t (front is_word_byte bytes) (behind is_word_byte bytes)
 run_stands bytes t b e = record {
   parts = front-behind is_word_byte bytes;
   spelled = run_spelled (front is_word_byte bytes) t (run_parts bytes b).1 (front_passes is_word_byte bytes) e;
@@ -234,7 +234,7 @@ lettered_there : (bytes : List ℕ) (text rest : List ℕ) → begins is_word_by
 lettered_there bytes text rest b parts some l refused =
     true≢false (sym l ∙ (sym (begins_front is_letter text rest some) ∙ (sym (ap (begins is_letter) parts) ∙ (sym (first_same is_letter bytes b) ∙ refused))))
 
-run_no_token : (bytes : List ℕ) → begins is_word_byte bytes ≡ true → run_token (front is_word_byte bytes) ≡ None → (t : Token) (text rest : List ℕ) → Stands bytes t text rest → ⊥
+run_no_token : (bytes : List ℕ) → begins is_word_byte bytes ≡ true → run_token (front is_word_byte bytes) ≡ None → (t : Token) (text rest : List ℕ) → IsFirstToken bytes t text rest → ⊥
 run_no_token bytes b e t text rest h = by_token t h.spelled h.apart
   where
     refused : (begins is_letter (front is_word_byte bytes) ≡ false) × (is_number (front is_word_byte bytes) ≡ false)
@@ -307,7 +307,7 @@ module _ (bytes : List ℕ) (other_first : begins is_word_byte bytes ≡ false) 
   module _ (no_comment : OpensComment bytes → ⊥) where
     stands_by : (k : ℕ) (s : Sign) → sign_written (take k bytes) ≡ Some s →
         ((longer less : List ℕ) (s : Sign) → bytes ≡ longer ++ less → longer ≡ sign_text s → length longer ≤ k) →
-        Stands bytes (Token.sign s) (take k bytes) (drop k bytes)
+        IsFirstToken bytes (Token.sign s) (take k bytes) (drop k bytes)
     stands_by k s e bound = record {
       parts = sym (take-append-drop k bytes);
       spelled = sign_found (take k bytes) s e;
@@ -317,26 +317,26 @@ module _ (bytes : List ℕ) (other_first : begins is_word_byte bytes ≡ false) 
     }
 
     -- the sign that is found stands here
-    sign_stands : (s : Sign) → sign_there bytes ≡ Some s → (k : ℕ) × Stands bytes (Token.sign s) (take k bytes) (drop k bytes)
+    sign_stands : (s : Sign) → sign_there bytes ≡ Some s → (k : ℕ) × IsFirstToken bytes (Token.sign s) (take k bytes) (drop k bytes)
     sign_stands s e = by_three (sign_written (take 3 bytes)) refl e
       where
         by_one : (o : Option Sign) → sign_written (take 1 bytes) ≡ o → sign_written (take 3 bytes) ≡ None → sign_written (take 2 bytes) ≡ None →
-            o ≡ Some s → (k : ℕ) × Stands bytes (Token.sign s) (take k bytes) (drop k bytes)
+            o ≡ Some s → (k : ℕ) × IsFirstToken bytes (Token.sign s) (take k bytes) (drop k bytes)
         by_one o is none3 none2 e = (1, stands_by 1 s (is ∙ e) (below_one none3 none2))
 
         by_two : (o : Option Sign) → sign_written (take 2 bytes) ≡ o → sign_written (take 3 bytes) ≡ None →
-            first_of_two o (sign_written (take 1 bytes)) ≡ Some s → (k : ℕ) × Stands bytes (Token.sign s) (take k bytes) (drop k bytes)
+            first_of_two o (sign_written (take 1 bytes)) ≡ Some s → (k : ℕ) × IsFirstToken bytes (Token.sign s) (take k bytes) (drop k bytes)
         by_two (Some t) is none3 e = (2, stands_by 2 s (is ∙ e) (below_two none3))
         by_two None is none3 e = by_one (sign_written (take 1 bytes)) refl none3 is e
 
         by_three : (o : Option Sign) → sign_written (take 3 bytes) ≡ o →
             first_of_two o (first_of_two (sign_written (take 2 bytes)) (sign_written (take 1 bytes))) ≡ Some s →
-            (k : ℕ) × Stands bytes (Token.sign s) (take k bytes) (drop k bytes)
+            (k : ℕ) × IsFirstToken bytes (Token.sign s) (take k bytes) (drop k bytes)
         by_three (Some t) is e = (3, stands_by 3 s (is ∙ e) below_three)
         by_three None is e = by_two (sign_written (take 2 bytes)) refl is e
 
   -- where no sign is found no token stands here
-  sign_no_token : sign_there bytes ≡ None → (t : Token) (text rest : List ℕ) → Stands bytes t text rest → ⊥
+  sign_no_token : sign_there bytes ≡ None → (t : Token) (text rest : List ℕ) → IsFirstToken bytes t text rest → ⊥
   sign_no_token e t text rest h = by_three (sign_written (take 3 bytes)) refl e
     where
       no_sign : sign_written (take 3 bytes) ≡ None → sign_written (take 2 bytes) ≡ None → sign_written (take 1 bytes) ≡ None → (s : Sign) → text ≡ sign_text s → ⊥
@@ -502,7 +502,7 @@ next bytes =
 -- The bytes begin so.
 IsNext : List ℕ → Next → Type 0
 IsNext bytes (skips n) = (0 < n) × ((at : ℕ) (tokens : List Placed) → Tokens (at + n) (drop n bytes) tokens → Tokens at bytes tokens)
-IsNext bytes (finds t n) = (text : List ℕ) × (length text ≡ n) × Stands bytes t text (drop n bytes)
+IsNext bytes (finds t n) = (text : List ℕ) × (length text ≡ n) × IsFirstToken bytes t text (drop n bytes)
 IsNext bytes fails = IsFaulty bytes
 
 skips_space : (bytes : List ℕ) → begins is_space bytes ≡ true → IsNext bytes (skips 1)
@@ -553,7 +553,7 @@ black_there (b ∷ bytes) h = h
 module _ (bytes : List ℕ) (some : 0 < length bytes) (black : begins is_space bytes ≡ false) where
   -- nothing stands here where no comment does, opened or not, and no token
   faulty_there : ((text rest : List ℕ) → bytes ≡ text ++ rest → IsComment text rest → ⊥) →
-      ((t : Token) (text rest : List ℕ) → Stands bytes t text rest → ⊥) → IsFaulty bytes
+      ((t : Token) (text rest : List ℕ) → IsFirstToken bytes t text rest → ⊥) → IsFaulty bytes
   faulty_there comment token = record { some = not_empty bytes some; no_space = black_there bytes black; no_comment = comment; no_token = token }
 
   fails_unclosed : opens_line bytes ≡ false → opens_block bytes ≡ true → has_end (drop 2 bytes) ≡ false → IsNext bytes fails
@@ -570,7 +570,7 @@ module _ (bytes : List ℕ) (some : 0 < length bytes) (black : begins is_space b
     next_run w (Some t) e =
         let rest : drop (length (front is_word_byte bytes)) bytes ≡ behind is_word_byte bytes =
         ap (drop (length (front is_word_byte bytes))) (front-behind is_word_byte bytes) ∙ drop_at (front is_word_byte bytes) (behind is_word_byte bytes) _ refl in
-        (front is_word_byte bytes, refl, subst (λ r. Stands bytes t (front is_word_byte bytes) r) (sym rest) (run_stands bytes t w e))
+        (front is_word_byte bytes, refl, subst (λ r. IsFirstToken bytes t (front is_word_byte bytes) r) (sym rest) (run_stands bytes t w e))
     next_run w None e = faulty_there no_comment_at_all (run_no_token bytes w e)
 
     next_sign : begins is_word_byte bytes ≡ false → (o : Option Sign) → sign_there bytes ≡ o → IsNext bytes (sign_next o)
@@ -581,7 +581,7 @@ module _ (bytes : List ℕ) (some : 0 < length bytes) (black : begins is_space b
         let len : length (take found.0 bytes) ≡ length (sign_text s) = ap length stands.spelled in
         let rest : drop (length (sign_text s)) bytes ≡ drop found.0 bytes =
         ap (drop (length (sign_text s))) stands.parts ∙ drop_at (take found.0 bytes) (drop found.0 bytes) _ len in
-        (take found.0 bytes, len, subst (λ r. Stands bytes (Token.sign s) (take found.0 bytes) r) (sym rest) stands)
+        (take found.0 bytes, len, subst (λ r. IsFirstToken bytes (Token.sign s) (take found.0 bytes) r) (sym rest) stands)
     next_sign w None e = faulty_there no_comment_at_all (sign_no_token bytes w e)
 
     next_token : (w : Bool) → begins is_word_byte bytes ≡ w →

@@ -157,8 +157,8 @@ module _ (all : List Slot) where
   items_agree scope [] coming h = tt
   items_agree scope (item ∷ more) coming h =
       let behind = items_uses (declared_in scope item.name item.slot) more in
-      Each-append UseAgrees (optional_uses scope.known item.first) (again_uses scope item.name ++ behind) (optional_agrees scope.known item.first h.known)
-      (Each-append UseAgrees (again_uses scope item.name) behind (again_agrees scope item.name)
+      Each-append UseAgrees (again_uses scope item.name) (optional_uses scope.known item.first ++ behind) (again_agrees scope item.name)
+      (Each-append UseAgrees (optional_uses scope.known item.first) behind (optional_agrees scope.known item.first h.known)
       (items_agree (declared_in scope item.name item.slot) more coming (declared_fits scope item.name item.slot (map (λ item. item.slot) more ++ coming) h)))
 
   spawn_agrees : (known : List Variable) (at : ℕ) (destination : Option (Mark Name)) (call : Call Name) → Each Agrees known → Each UseAgrees (spawn_uses known at destination call)

@@ -1,14 +1,16 @@
 -- A function of a sound program has a frame of at most 32,768 words.
-use Rattle.std.proofs.Common.{◌≡◌, ℕ, ◌+◌, ◌<◌, ◌≤◌, Bool, true, false, not, List, [], ◌∷◌, ◌++◌, length, refl, sym, ap, ◌∙◌, subst, All, if◌then◌else◌}
+use Rattle.std.proofs.Common.{◌≡◌, ℕ, ◌+◌, ◌<◌, ◌≤◌, Bool, true, false, not, ◌||◌, List, [], ◌∷◌, ◌++◌, length, map, refl, sym, ap, ◌∙◌, subst, All, if◌then◌else◌}
 use Rattle.std.specs.Prelude.{nat_lt, ◌==◌, slice_index_or}
 use Rattle.std.specs.List.{list_any, flat_map}
 use Rattle.std.proofs.lemmas.Bool.{ltb-false}
 use Rattle.std.proofs.lemmas.List.Elements.{All-nil, All-cons}
 use Rattle.cm_syntax.specs.declared.name.Name.{Name}
 use Rattle.cm_syntax.specs.declared.stmt.Function.{Function}
+use Rattle.cm_syntax.specs.declared.stmt.Tree.{Tree}
 use Rattle.cm_syntax.specs.Frame.{frame_words, rounded_frame, slots_words, body_temporaries}
 use Rattle.cm_syntax.specs.Names.{Use, mention, calls, again, parallel, returns, function_uses, function_slots, outermost, after_items, numbered_body, numbered_from, numbered_definition}
-use Rattle.cm_syntax.specs.Faults.{Variant, frame, fault_where, use_faults, is_faulty_mention, temporaries_of, frame_of, function_faults, functions_faults, IsSoundFunction}
+use Rattle.cm_syntax.specs.Text.{is_same}
+use Rattle.cm_syntax.specs.Faults.{Variant, twice, kind, frame, count, most_frame_words, most_functions, most_parameter_words, parameter_slots, is_wrong_main, fault_where, use_faults, is_faulty_mention, temporaries_of, frame_of, function_faults, functions_faults, faults, program_of, IsSoundFunction}
 
 nothing_first : {A : Type 0} (a b : List A) → a ++ b ≡ [] → a ≡ []
 nothing_first [] b e = refl
@@ -38,18 +40,45 @@ module _ (functions : List (Function Name)) where
       let others = no_faulty_uses f more (nothing_second (use_faults functions f first) (flat_map (use_faults functions f) more) e) in
       rw (one, others) refl
 
+  -- of a function without faults: its frame isn't too great, and no use is faulty
+  record Clean (f : Function Name) : Type 0 where
+    few : nat_lt most_frame_words (frame_of functions f) ≡ false
+    uses : flat_map (use_faults functions f) (function_uses f) ≡ []
+
+  clean : (before : List (Function Name)) (index : ℕ) (f : Function Name) → function_faults functions before index f ≡ [] → Clean f
+  clean before index f e =
+      let doubled = fault_where (list_any (λ g. is_same g.name.name f.name.name) before) f.name.at twice in
+      let misused = fault_where (is_wrong_main functions f) f.name.at kind in
+      let great = fault_where (nat_lt most_frame_words (frame_of functions f)) f.name.at frame in
+      let many = fault_where (index == most_functions || nat_lt most_parameter_words (slots_words (parameter_slots f))) f.name.at count in
+      let uses = flat_map (use_faults functions f) (function_uses f) in
+      let behind_main = nothing_second misused (great ++ (many ++ uses)) (nothing_second doubled (misused ++ (great ++ (many ++ uses))) e) in
+      record {
+        few = no_fault _ f.name.at frame (nothing_first great (many ++ uses) behind_main);
+        uses = nothing_second many uses (nothing_second great (many ++ uses) behind_main);
+      }
+
   -- so its frame is that of its numbered body
+  frame_same : (before : List (Function Name)) (index : ℕ) (f : Function Name) → function_faults functions before index f ≡ [] →
+      frame_of functions f ≡ frame_words (numbered_definition functions index f)
+  frame_same before index f e =
+      let sound : list_any (is_faulty_mention functions f) (function_uses f) ≡ false = no_faulty_uses f (function_uses f) (clean before index f e).uses in
+      let numbered : temporaries_of functions f ≡ body_temporaries (numbered_body functions (after_items outermost f.parameters) f.body) =
+      ap (λ t. if t then body_temporaries f.body else body_temporaries (numbered_body functions (after_items outermost f.parameters) f.body)) sound in
+      ap (rounded_frame (slots_words (function_slots f))) numbered
+
+  frames_same : (before : List (Function Name)) (index : ℕ) (fs : List (Function Name)) → functions_faults functions before index fs ≡ [] →
+      map (frame_of functions) fs ≡ map frame_words (numbered_from functions index fs)
+  frames_same before index [] e = refl
+  frames_same before index (f ∷ more) e =
+      let same = frame_same before index f (nothing_first _ _ e) in
+      let others = frames_same (before ++ f ∷ []) (index + 1) more (nothing_second _ _ e) in
+      λ i. same i ∷ others i
+
   frame_numbered : (before : List (Function Name)) (index : ℕ) (f : Function Name) → function_faults functions before index f ≡ [] →
       frame_words (numbered_definition functions index f) ≤ 32768
   frame_numbered before index f e =
-      let behind_twice = nothing_second _ _ e in
-      let behind_main = nothing_second _ _ behind_twice in
-      let few : nat_lt 32768 (frame_of functions f) ≡ false = no_fault _ f.name.at frame (nothing_first _ _ behind_main) in
-      let behind_frame = nothing_second _ _ behind_main in
-      let sound : list_any (is_faulty_mention functions f) (function_uses f) ≡ false = no_faulty_uses f (function_uses f) (nothing_second _ _ behind_frame) in
-      let numbered : temporaries_of functions f ≡ body_temporaries (numbered_body functions (after_items outermost f.parameters) f.body) =
-      ap (λ t. if t then body_temporaries f.body else body_temporaries (numbered_body functions (after_items outermost f.parameters) f.body)) sound in
-      subst (λ t. rounded_frame (slots_words (function_slots f)) t ≤ 32768) numbered (ltb-false 32768 (frame_of functions f) few)
+      subst (λ n. n ≤ 32768) (frame_same before index f e) (ltb-false most_frame_words (frame_of functions f) (clean before index f e).few)
 
   frames_numbered : (before : List (Function Name)) (index : ℕ) (fs : List (Function Name)) → functions_faults functions before index fs ≡ [] →
       All (λ g. frame_words g ≤ 32768) (numbered_from functions index fs)
@@ -65,3 +94,7 @@ sound_frame f (program, sound, (k, lt, is)) =
     let among : slice_index_or (numbered_from tree.functions 0 tree.functions) k f ≡ f = ap (λ p. slice_index_or p.functions k f) (sym sound.3) ∙ is in
     let within : k < length (numbered_from tree.functions 0 tree.functions) = subst (λ p. k < length p.functions) sound.3 lt in
     subst (λ g. frame_words g ≤ 32768) among (all k f within)
+
+-- in a tree without faults the words that are counted for a fault are those of the frames
+pub frames_agree : (tree : Tree) → faults tree ≡ [] → map (frame_of tree.functions) tree.functions ≡ map frame_words (program_of tree).functions
+frames_agree tree e = frames_same tree.functions [] 0 tree.functions (nothing_first _ _ e)

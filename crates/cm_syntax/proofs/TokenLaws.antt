@@ -8,7 +8,7 @@ use Rattle.std.proofs.lemmas.Bool.Decides.{nat_tests}
 use Rattle.cm_syntax.specs.declared.token.Keyword.{Keyword}
 use Rattle.cm_syntax.specs.declared.token.Sign.{Sign}
 use Rattle.cm_syntax.specs.Text.{is_space, is_letter, is_word_byte, keyword_text, sign_text}
-use Rattle.cm_syntax.specs.Tokens.{Token, Placed, DoesNotBegin, begins, is_reserved, Spells, IsComment, OpensComment, Stands, IsFaulty, Tokens}
+use Rattle.cm_syntax.specs.Tokens.{Token, Placed, DoesNotBegin, begins, is_reserved, Spells, IsComment, OpensComment, IsFirstToken, IsFaulty, Tokens}
 use Rattle.cm_syntax.proofs.Spelling.{keyword_text-injective, keyword_begins, keyword_bytes, keyword_free, sign_text-injective, sign_begins, sign_black, sign_short, reserved_begins, reserved_bytes}
 
 -- ---- bytes
@@ -135,9 +135,9 @@ equal_fronts a b c d e le ge =
     let none : found.0 ≡ [] = no_more a found.0 (subst (λ x. length x ≤ length a) found.1 ge) in
     (sym (found.1 ∙ (ap (λ m. a ++ m) none ∙ append-nil a)), found.2 ∙ ap (λ m. m ++ d) none)
 
-pub Stands-one : (bytes : List ℕ) (t u : Token) (text rest text' rest' : List ℕ) → Stands bytes t text rest → Stands bytes u text' rest' →
+pub IsFirstToken-one : (bytes : List ℕ) (t u : Token) (text rest text' rest' : List ℕ) → IsFirstToken bytes t text rest → IsFirstToken bytes u text' rest' →
     (t ≡ u) × (text ≡ text') × (rest ≡ rest')
-Stands-one bytes t u text rest text' rest' h i =
+IsFirstToken-one bytes t u text rest text' rest' h i =
     let fronts = equal_fronts text rest text' rest' (sym h.parts ∙ i.parts) (i.longest t text rest h.spelled h.parts) (h.longest u text' rest' i.spelled i.parts) in
     (Spells-one t u text h.spelled (subst (Spells u) (sym fronts.0) i.spelled), fronts.0, fronts.1)
 
@@ -214,10 +214,10 @@ opening_some : OpensComment [] → ⊥
 opening_some (rest, inl e) = absurd (omega (arith, ap length e))
 opening_some (rest, inr e) = absurd (omega (arith, ap length e))
 
-stands_some : (t : Token) (text rest : List ℕ) → Stands [] t text rest → ⊥
+stands_some : (t : Token) (text rest : List ℕ) → IsFirstToken [] t text rest → ⊥
 stands_some t text rest h = absurd (omega (arith, token_some t text h.spelled, ap length h.parts, length-append text rest))
 
-stands_black : (byte : ℕ) (bytes : List ℕ) (t : Token) (text rest : List ℕ) → Stands (byte ∷ bytes) t text rest → is_space byte ≡ false
+stands_black : (byte : ℕ) (bytes : List ℕ) (t : Token) (text rest : List ℕ) → IsFirstToken (byte ∷ bytes) t text rest → is_space byte ≡ false
 stands_black byte bytes t text rest h = first text h.parts (token_some t text h.spelled) (token_black t text h.spelled)
   where
     first : (text : List ℕ) → byte ∷ bytes ≡ text ++ rest → 0 < length text → begins is_space text ≡ false → is_space byte ≡ false
@@ -253,7 +253,7 @@ module _ {at : ℕ} where
   after_comment {bytes} {text} {rest} parts h same (Tokens.token stands more) = absurd (stands.no_comment (comment_opens bytes text rest parts h))
   after_comment {text = text} {rest = rest} parts h same (Tokens.fault f) = absurd (f.no_comment text rest parts h)
 
-  after_token : {bytes : List ℕ} (t : Token) {text rest : List ℕ} {tokens others : List Placed} → Stands bytes t text rest →
+  after_token : {bytes : List ℕ} (t : Token) {text rest : List ℕ} {tokens others : List Placed} → IsFirstToken bytes t text rest →
       ((more : List Placed) → Tokens (at + length text) rest more → tokens ≡ more) → Tokens at bytes others →
       record { token = t; at = at } ∷ tokens ≡ others
   after_token t {text} {rest} h same Tokens.end = absurd (stands_some t text rest h)
@@ -262,7 +262,7 @@ module _ {at : ℕ} where
   after_token {bytes} t h same (Tokens.comment {text = text'} {rest = rest'} parts' h' more) =
       absurd (h.no_comment (comment_opens bytes text' rest' parts' h'))
   after_token {bytes} t {text} {rest} h same (Tokens.token {token = u} {text = text'} {rest = rest'} {tokens = later} i more) =
-      let one = Stands-one bytes t u text rest text' rest' h i in
+      let one = IsFirstToken-one bytes t u text rest text' rest' h i in
       let tails = same later (subst (λ r. Tokens (at + length text) r later) (sym one.2) (subst (λ x. Tokens (at + length x) rest' later) (sym one.1) more)) in
       λ j. record { token = one.0 j; at = at } ∷ tails j
   after_token t {text} {rest} h same (Tokens.fault f) = absurd (f.no_token t text rest h)

@@ -47,7 +47,7 @@ literal_token (negsuc value) = Token.unfit
 
 -- ---- expressions
 
--- the level of the operator that an expression has outside of brackets
+-- the level of an expression's outermost operator
 abbrev pub own_level : Expr Name → ℕ
 own_level (Prefixed op operand) = level_of op
 own_level (Joined op left right) = level_of op
@@ -121,7 +121,7 @@ abbrev pub destination_text : Option (Mark Name) → List Token
 destination_text None = []
 destination_text (Some x) = name_token x ∷ sign_token sign.Assign ∷ []
 
--- a declaration, an assignment, a call or nothing
+-- a declaration, an assignment or a call; an empty part of a `for` is printed as nothing
 abbrev pub simple_text : Stmt Name → List Token
 simple_text (statement.Declare items) = word_token keyword.Int ∷ items_text items
 simple_text (statement.Assign written op value) = target_text written ++ (sign_token (assign_sign op) ∷ expression_text value)
@@ -179,7 +179,7 @@ abbrev pub functions_text : List (Function Name) → List Token
 functions_text [] = []
 functions_text (first ∷ more) = function_text first ++ functions_text more
 
--- how a token is written
+-- how a token is written; no tree of a source has one that is unfit
 abbrev pub token_text : Token → List ℕ
 token_text (Token.keyword k) = keyword_text k
 token_text (Token.sign sign) = sign_text sign

@@ -1,4 +1,4 @@
--- What the expressions that have code today mean: literals joined by `+`, `-` and `*`.
+-- What expressions of literals joined by `+`, `-` and `*` mean.
 use Rattle.std.specs.Prelude.{ℕ, ◌+◌, ◌≡◌, ◌≤ℤ◌, ℤ, pos, Bool, true, false, Option, None, Some, option_and_then}
 use Rattle.cm_syntax.specs.declared.expr.Expr.{Expr}
 use Rattle.cm_syntax.specs.declared.expr.Expr.TheVariants.{Number}

@@ -76,6 +76,22 @@ call_faults at (Some callee) arguments wanted =
     fault_where (not (length arguments == length (parameter_slots callee))) at arity ++
     fault_where (has_misfit arguments (parameter_slots callee) || (wanted && not callee.gives)) at kind
 
+-- ---- limits
+
+-- the words of a frame
+abbrev pub most_frame_words : ℕ
+most_frame_words = 32768
+
+-- the functions of a program
+abbrev pub most_functions : ℕ
+most_functions = 256
+
+-- the words of a function's parameters
+abbrev pub most_parameter_words : ℕ
+most_parameter_words = 8
+
+-- ---- faults of mentions and functions
+
 module _ (functions : List (Function Name)) where
   -- the faults of a use in the function f
   abbrev pub use_faults : (f : Function Name) → Use → List Fault
@@ -92,13 +108,14 @@ module _ (functions : List (Function Name)) where
   is_faulty_mention f (calls g arguments wanted) = not (length (use_faults f (calls g arguments wanted)) == 0)
   is_faulty_mention f _ = false
 
-  -- The temporaries of a function. Where a mention is faulty, a bare name that is an argument counts as a value.
+  -- The temporaries of a function. Only where no mention is faulty have all names their numbers. Else they are
+  -- counted in the tree, where a bare name that is an argument is a value.
   abbrev pub temporaries_of : Function Name → ℕ
   temporaries_of f =
       if list_any (is_faulty_mention f) (function_uses f) then body_temporaries f.body
       else body_temporaries (numbered_body functions (after_items outermost f.parameters) f.body)
 
-  -- the words of a function's frame
+  -- The words of a function's frame. In a tree without faults they are `frame_words` of the numbered function.
   abbrev pub frame_of : Function Name → ℕ
   frame_of f = rounded_frame (slots_words (function_slots f)) (temporaries_of f)
 
@@ -108,13 +125,13 @@ module _ (functions : List (Function Name)) where
   abbrev pub is_wrong_main : Function Name → Bool
   is_wrong_main f = is_same f.name.name (codes "main") && (not (length f.parameters == 0) || not f.gives)
 
-  -- the function of this index, behind the ones before it
+  -- The function of this index, behind the ones before it. Indices count from 0, so the 257th function has index 256.
   abbrev pub function_faults : (before : List (Function Name)) → (index : ℕ) → Function Name → List Fault
   function_faults before index f =
       fault_where (list_any (λ g. is_same g.name.name f.name.name) before) f.name.at twice ++
       (fault_where (is_wrong_main f) f.name.at kind ++
-      (fault_where (nat_lt 32768 (frame_of f)) f.name.at frame ++
-      (fault_where (index == 256 || nat_lt 8 (slots_words (parameter_slots f))) f.name.at count ++
+      (fault_where (nat_lt most_frame_words (frame_of f)) f.name.at frame ++
+      (fault_where (index == most_functions || nat_lt most_parameter_words (slots_words (parameter_slots f))) f.name.at count ++
       flat_map (use_faults f) (function_uses f))))
 
   abbrev pub functions_faults : (before : List (Function Name)) → (index : ℕ) → List (Function Name) → List Fault

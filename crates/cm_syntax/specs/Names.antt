@@ -95,7 +95,7 @@ abbrev pub after_items : Scope → List (Item Name) → Scope
 after_items scope [] = scope
 after_items scope (item ∷ more) = after_items (declared_in scope item.name item.slot) more
 
--- behind a statement that is no part of the same block: what it declares is unknown, and has its slots
+-- behind a statement of another block: what it declares isn't known there, but its slots are taken
 abbrev pub past : Scope → Stmt Name → Scope
 past scope s = record { known = scope.known; here = scope.here; next = scope.next + length (statement_slots s) }
 
@@ -107,13 +107,13 @@ after scope s = past scope s
 -- ---- the uses of names
 
 -- How a variable's name is used: as a value; with an index; in `len`; as the whole of a split; as the target of an
--- assignment; behind `&`; as the destination of a spawn; as a bare argument.
+-- assignment; behind `&`; as the destination of a spawn; alone, as an argument.
 pub data Role : Type 0 where
-  valued indexed measured parted assigned addressed destined passed : Role
+  valued indexed measured parted assigned addressed destined given : Role
 
 -- whether a variable of this kind may be used so
 abbrev pub is_fit : Role → Slot → Bool
-is_fit passed kind = true
+is_fit given kind = true
 is_fit indexed slot.Scalar = false
 is_fit indexed kind = true
 is_fit measured slot.Scalar = false
@@ -175,16 +175,17 @@ abbrev mutual
   arguments_uses known (more_of-Arg first more) = argument_uses known first ++ arguments_uses known more
 
   pub argument_uses : List Variable → Arg Name → List Use
-  argument_uses known (argument.Value (expression.Scalar x)) = uses_name known x passed ∷ []
+  argument_uses known (argument.Value (expression.Scalar x)) = uses_name known x given ∷ []
   argument_uses known (argument.Value value) = expression_uses known value
-  argument_uses known (argument.Slice a) = uses_name known a passed ∷ []
+  argument_uses known (argument.Slice a) = uses_name known a given ∷ []
   argument_uses known (argument.Address x) = uses_name known x addressed ∷ []
 
 abbrev pub optional_uses : List Variable → Option (Expr Name) → List Use
 optional_uses known None = []
 optional_uses known (Some value) = expression_uses known value
 
--- a call that is a statement or is spawned, and whether a value of it is wanted
+-- A call that is a statement or is spawned, and whether a value of it is wanted. It comes as an expression, whose
+-- arguments can be matched; another expression never comes.
 abbrev pub call_uses : List Variable → (wanted : Bool) → Expr Name → List Use
 call_uses known wanted (expression.Call' f _ arguments) = calls f (passed_arguments known arguments) wanted ∷ arguments_uses known arguments
 call_uses known wanted _ = []
@@ -201,7 +202,7 @@ again_uses scope x = if list_any (is_same x.name) scope.here then again x.at ∷
 abbrev pub items_uses : Scope → List (Item Name) → List Use
 items_uses scope [] = []
 items_uses scope (item ∷ more) =
-    optional_uses scope.known item.first ++ (again_uses scope item.name ++ items_uses (declared_in scope item.name item.slot) more)
+    again_uses scope item.name ++ (optional_uses scope.known item.first ++ items_uses (declared_in scope item.name item.slot) more)
 
 abbrev pub spawn_uses : List Variable → (at : ℕ) → Option (Mark Name) → Call Name → List Use
 spawn_uses known at None call = parallel at ∷ call_uses known false (expression.Call call)
@@ -304,6 +305,7 @@ module _ (functions : List (Function Name)) where
   abbrev pub numbered_optional : List Variable → Option (Expr Name) → Option (Expr ℕ)
   numbered_optional known value = option_map (numbered_expression known) value
 
+  -- a call, which comes as an expression as in `call_uses`
   abbrev pub numbered_call : List Variable → Expr Name → Call ℕ
   numbered_call known (expression.Call' f _ arguments) = record { function = numbered_function functions f; arguments = numbered_arguments known arguments }
   numbered_call known _ = record { function = record { name = 0; at = 0 }; arguments = [] }

@@ -66,7 +66,7 @@ is_closing (Token.sign sign.BracketClose) = true
 is_closing _ = false
 
 -- How many brackets are open after the tokens. In front of a statement none is, so this counts from the beginning
--- of the statement.
+-- of the statement. Of a function's head at most two are counted, which is no refusal.
 abbrev pub open_brackets : List Placed → ℕ
 open_brackets tokens = count_by (λ t. is_opening t.token) tokens - count_by (λ t. is_closing t.token) tokens
 

@@ -92,7 +92,7 @@ OpensComment bytes = (rest : List ℕ) × ((bytes ≡ codes "//" ++ rest) ⊎ (b
 -- ---- tokens in a text
 
 -- The bytes begin with this token, whose text is the longest that any token has there, and rest follows.
-pub record Stands (bytes : List ℕ) (token : Token) (text rest : List ℕ) : Type 0 where
+pub record IsFirstToken (bytes : List ℕ) (token : Token) (text rest : List ℕ) : Type 0 where
   pub parts : bytes ≡ text ++ rest
   pub spelled : Spells token text
   pub longest : (other : Token) (longer less : List ℕ) → Spells other longer → bytes ≡ longer ++ less → length longer ≤ length text
@@ -104,7 +104,7 @@ pub record IsFaulty (bytes : List ℕ) : Type 0 where
   pub some : bytes ≢ []
   pub no_space : DoesNotBegin is_space bytes
   pub no_comment : (text rest : List ℕ) → bytes ≡ text ++ rest → IsComment text rest → ⊥
-  pub no_token : (token : Token) (text rest : List ℕ) → Stands bytes token text rest → ⊥
+  pub no_token : (token : Token) (text rest : List ℕ) → IsFirstToken bytes token text rest → ⊥
 
 -- The tokens of the bytes, the first of which has this place. White space and comments are passed over. A byte
 -- that begins no token is the last thing in the list, and fits nowhere.
@@ -115,6 +115,6 @@ pub data Tokens : (at : ℕ) → List ℕ → List Placed → Type 0 where
   comment : {at : ℕ} {bytes text rest : List ℕ} {tokens : List Placed} →
       bytes ≡ text ++ rest → IsComment text rest → Tokens (at + length text) rest tokens → Tokens at bytes tokens
   token : {at : ℕ} {token : Token} {bytes text rest : List ℕ} {tokens : List Placed} →
-      Stands bytes token text rest → Tokens (at + length text) rest tokens →
+      IsFirstToken bytes token text rest → Tokens (at + length text) rest tokens →
       Tokens at bytes (record { token = token; at = at } ∷ tokens)
   fault : {at : ℕ} {bytes : List ℕ} → IsFaulty bytes → Tokens at bytes (record { token = unfit; at = at } ∷ [])

@@ -59,7 +59,7 @@ sign_of op.Or = sign.Bar
 sign_of op.Both = sign.AndAnd
 sign_of op.Either = sign.OrOr
 
--- the sign of an update by an operator that may have one
+-- the sign of an update by an operator that may have one; no source updates by another
 abbrev pub update_sign : Op → Sign
 update_sign op.Mul = sign.StarAssign
 update_sign op.Div = sign.SlashAssign

@@ -1,7 +1,7 @@
 //! Laws of the definitions, and single texts worked out by hand with which they have to agree. The functions do
 //! nothing: their contracts are the laws.
 
-ghost use Rattle.std.specs.Prelude.{◌≡◌, ◌≤◌, ◌<◌, ◌++◌, [], ◌∷◌, ℕ, List, Bool, pos, length, codes, replicate, slice_get, Some, None};
+ghost use Rattle.std.specs.Prelude.{◌≡◌, ◌≤◌, ◌<◌, ◌++◌, [], ◌∷◌, ℕ, List, Bool, pos, length, codes, map, replicate, slice_get, Some, None};
 ghost use Rattle.cm_syntax.specs.declared.name.Name.{Name};
 ghost use Rattle.cm_syntax.specs.declared.expr.Expr.{Expr};
 ghost use Rattle.cm_syntax.specs.declared.expr.Expr.TheVariants as expression;
@@ -20,7 +20,8 @@ ghost use Rattle.cm_syntax.specs.Refusals.{Syntax, Size, Refusal, IsAnswer, IsSo
 ghost use Rattle.cm_syntax.specs.Canonical.{canonical};
 ghost use Rattle.cm_syntax.specs.Places.{without_places};
 ghost use Rattle.cm_syntax.specs.Names.{Variable, Stands, function_slots};
-ghost use Rattle.cm_syntax.specs.Faults.{Variant, fault_at, IsNameAnswer};
+ghost use Rattle.cm_syntax.specs.Frame as frame;
+ghost use Rattle.cm_syntax.specs.Faults.{Variant, fault_at, faults, frame_of, program_of, IsNameAnswer};
 ghost use Rattle.cm_syntax.specs.Rows.{IsPrintedAs, HasBody, HasFaults, HasFrames, StandsForSlot, IsSoundSource, loops};
 
 /// A text has exactly one list of tokens.
@@ -75,6 +76,12 @@ pub fn slots_of_mentions()
 pub fn canonical_source()
     ensures { (tree : Tree) → IsSoundTree tree
         → (again : Tree) × IsSourceOf (canonical tree) again × (without_places again ≡ without_places tree) }
+{}
+
+/// In a tree without faults, the frame words that are held against the limit are those of the program's functions.
+pub fn frame_words_agree()
+    ensures { (tree : Tree) → faults tree ≡ []
+        → map (frame_of tree.functions) tree.functions ≡ map frame.frame_words (program_of tree).functions }
 {}
 
 /// The tokens of some texts: the longest token that fits stands, a comment doesn't nest, and a word that is set
