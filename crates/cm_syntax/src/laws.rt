@@ -21,7 +21,7 @@ ghost use Rattle.cm_syntax.specs.Canonical.{canonical};
 ghost use Rattle.cm_syntax.specs.Places.{without_places};
 ghost use Rattle.cm_syntax.specs.Names.{Variable, Stands, function_slots};
 ghost use Rattle.cm_syntax.specs.Frame as frame;
-ghost use Rattle.cm_syntax.specs.Faults.{Variant, fault_at, faults, frame_of, program_of, IsNameAnswer};
+ghost use Rattle.cm_syntax.specs.Faults.{Variant, fault_at, faults, frame_of, program_of, Faulty, IsNameAnswer};
 ghost use Rattle.cm_syntax.specs.Rows.{IsPrintedAs, HasBody, HasFaults, HasFrames, StandsForSlot, IsSoundSource, loops};
 
 /// A text has exactly one list of tokens.
@@ -191,6 +191,13 @@ pub fn faulty_sources()
         (fault_at 4 Variant.count ∷ []) }
     ensures great_frame { HasFaults (codes "int main() { int a[16384], b[16384]; return 0; }")
         (fault_at 4 Variant.frame ∷ []) }
+{}
+
+/// The name of the 257th function of a tree is faulty.
+pub fn one_function_too_many()
+    ensures { (tree : Tree) (before : List (Function Name)) (f : Function Name)
+        (more : List (Function Name)) → tree.functions ≡ before ++ f ∷ more
+        → length before ≡ 256 → Faulty tree f.name.at Variant.count }
 {}
 
 /// What some mentions stand for: the slot of a variable by the number of its use in the text.
