@@ -14,9 +14,6 @@ use Rattle.cm_syntax.specs.Tokens.{begins, is_reserved}
 pub is_same-equal : (a b : List ℕ) → is_same a b ≡ true → a ≡ b
 is_same-equal a b = (bytes_decides a b).0
 
-pub is_same-refl : (a : List ℕ) → is_same a a ≡ true
-is_same-refl a = (bytes_decides a a).1 refl
-
 -- all words of the language, and all signs with the longest first
 abbrev pub all_keywords : List Keyword
 all_keywords = word.Int ∷ word.Void ∷ word.Cilk ∷ word.Spawn ∷ word.Sync ∷ word.If ∷ word.Else ∷ word.While ∷ word.For ∷ word.Return ∷ word.Print ∷ word.Input ∷ word.Inputs ∷ word.Len ∷ word.Split ∷ word.At ∷ word.As ∷ []

@@ -5,6 +5,7 @@ ghost use Rattle.std.specs.Prelude.{◌≡◌, ◌≤◌, ◌<◌, ◌++◌, [],
 ghost use Rattle.cm_syntax.specs.declared.name.Name.{Name};
 ghost use Rattle.cm_syntax.specs.declared.expr.Expr.{Expr};
 ghost use Rattle.cm_syntax.specs.declared.expr.Expr.TheVariants as expression;
+ghost use Rattle.cm_syntax.specs.declared.expr.Arg.{Arg};
 ghost use Rattle.cm_syntax.specs.declared.expr.Call.{Call};
 ghost use Rattle.cm_syntax.specs.declared.stmt.Item.{Item};
 ghost use Rattle.cm_syntax.specs.declared.stmt.Target.{Target};
@@ -15,7 +16,7 @@ ghost use Rattle.cm_syntax.specs.declared.stmt.Tree.{Tree};
 ghost use Rattle.cm_syntax.specs.declared.token.Keyword.TheVariants as keywords;
 ghost use Rattle.cm_syntax.specs.declared.token.Sign.TheVariants as signs;
 ghost use Rattle.cm_syntax.specs.Tokens.{Token, Placed, placed, Tokens};
-ghost use Rattle.cm_syntax.specs.Grammar.{IsExpression, IsCall, AreDeclarators, IsTarget, IsSimple, IsPlain, AreStatements, AreParameters, IsFunction, Parses, IsSourceOf};
+ghost use Rattle.cm_syntax.specs.Grammar.{IsExpression, IsPrimary, IsArgument, IsCall, IsItem, AreDeclarators, IsDeclaration, IsTarget, IsSimple, IsPlain, AreStatements, IsStatement, IsBlock, IsParameter, AreParameters, IsFunction, Parses, IsSourceOf};
 ghost use Rattle.cm_syntax.specs.Refusals.{Syntax, Size, Refusal, IsAnswer, IsSoundTree};
 ghost use Rattle.cm_syntax.specs.Canonical.{canonical};
 ghost use Rattle.cm_syntax.specs.Places.{without_places};
@@ -35,12 +36,19 @@ pub fn one_token_list()
 pub fn grammar_members()
     ensures expression { (level : ℕ) → level ≤ 12
         → (tokens : List Placed) × (tree : Expr Name) × IsExpression level tokens tree }
+    ensures primary { (tokens : List Placed) × (tree : Expr Name) × IsPrimary tokens tree }
+    ensures argument { (tokens : List Placed) × (tree : Arg Name) × IsArgument tokens tree }
     ensures call { (tokens : List Placed) × (tree : Call Name) × IsCall tokens tree }
+    ensures item { (tokens : List Placed) × (tree : Item Name) × IsItem tokens tree }
     ensures declarators { (tokens : List Placed) × (items : List (Item Name)) × AreDeclarators tokens items }
+    ensures declaration { (tokens : List Placed) × (tree : Stmt Name) × IsDeclaration tokens tree }
     ensures target { (tokens : List Placed) × (tree : Target Name) × IsTarget tokens tree }
     ensures simple { (tokens : List Placed) × (tree : Stmt Name) × IsSimple tokens tree }
     ensures plain { (is_open : Bool) → (tokens : List Placed) × (tree : Stmt Name) × IsPlain is_open tokens tree }
     ensures statements { (tokens : List Placed) × (trees : List (Stmt Name)) × AreStatements tokens trees }
+    ensures statement { (tokens : List Placed) × (tree : Stmt Name) × IsStatement tokens tree }
+    ensures block { (tokens : List Placed) × (trees : List (Stmt Name)) × IsBlock tokens trees }
+    ensures parameter { (tokens : List Placed) × (tree : Item Name) × IsParameter tokens tree }
     ensures parameters { (tokens : List Placed) × (items : List (Item Name)) × AreParameters tokens items }
     ensures function { (tokens : List Placed) × (tree : Function Name) × IsFunction tokens tree }
     ensures program { (tokens : List Placed) × (functions : List (Function Name)) × Parses tokens functions }

@@ -1,9 +1,9 @@
-use Rattle.std.proofs.Common.{List, Bool, true, false, None, refl, codes}
+use Rattle.std.proofs.Common.{List, [], Bool, true, false, None, refl, arith, codes}
 use Rattle.cm_syntax.specs.declared.name.Name.{Name}
 use Rattle.cm_syntax.specs.declared.stmt.Stmt.{Stmt}
 use Rattle.cm_syntax.specs.Tokens.{Placed}
 use Rattle.cm_syntax.specs.Grammar.{IsPlain}
-use Rattle.cm_syntax.specs.Trees.{Mark, Expression, Invocation, Any, Declarator, Declarators, Written, Simple, Plain, Statements, Parameters, Definition, Source}
+use Rattle.cm_syntax.specs.Trees.{Mark, Expression, Invocation, Argument, Any, Declarator, Declarators, Written, Simple, Plain, Statements, Parameter, Parameters, Definition, Source}
 use Rattle.cm_syntax.proofs.laws.grammar_members.Goals as goal
 
 abbrev x : Mark
@@ -29,6 +29,18 @@ main = record {
 pub returns-clause-expression : goal.returns-clause-expression
 returns-clause-expression c = λ level le. (_, _, (12, le, Expression.variable x, refl, refl))
 
+pub returns-clause-primary : goal.returns-clause-primary
+returns-clause-primary c = (_, _, (12, omega arith, Expression.variable x, refl, refl))
+
+pub returns-clause-argument : goal.returns-clause-argument
+returns-clause-argument c = (_, _, (Argument.address 0 x, refl, refl))
+
+pub returns-clause-item : goal.returns-clause-item
+returns-clause-item c = (_, _, (Declarator.scalar x, refl, refl))
+
+pub returns-clause-declaration : goal.returns-clause-declaration
+returns-clause-declaration c = (_, _, (record { int_at = 0; declarators = Declarators.last (Declarator.scalar x) }, refl, refl))
+
 pub returns-clause-call : goal.returns-clause-call
 returns-clause-call c = (_, _, (Invocation.alone x 0 0, refl, refl))
 
@@ -50,6 +62,15 @@ returns-clause-plain c = plain
 
 pub returns-clause-statements : goal.returns-clause-statements
 returns-clause-statements c = (_, _, (Statements.none, refl, refl))
+
+pub returns-clause-statement : goal.returns-clause-statement
+returns-clause-statement c = (_, _, (Statements.plain (Plain.empty 0) Statements.none, refl, refl))
+
+pub returns-clause-block : goal.returns-clause-block
+returns-clause-block c = (_, _, record { opening = 0; closing = 0; inside = []; statements = (Statements.none, refl, refl); parts = refl })
+
+pub returns-clause-parameter : goal.returns-clause-parameter
+returns-clause-parameter c = (_, _, (Parameter.scalar 0 x, refl, refl))
 
 pub returns-clause-parameters : goal.returns-clause-parameters
 returns-clause-parameters c = (_, _, (Parameters.none, refl, refl))
