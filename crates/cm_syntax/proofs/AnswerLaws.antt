@@ -1,31 +1,31 @@
--- The answer of a refused source, where its tokens up to the refused place are few and its numbers there small.
+-- The answer of a refused source, where its tokens up to the refused offset are few and its numbers there small.
 use Rattle.std.proofs.Common.{◌≡◌, ◌≢◌, ℕ, suc, ◌+◌, ◌<◌, ◌≤◌, true, List, [], ◌∷◌, ◌++◌, length, refl, sym, ap, ◌∙◌, subst, arith, inl, inr, append_assoc, length-append}
 use Rattle.std.specs.List.{list_all}
 use Rattle.std.proofs.lemmas.Bool.{cases_lt}
 use Rattle.std.proofs.lemmas.List.Sums.{count_by-le-length}
-use Rattle.cm_syntax.specs.Tokens.{Placed, Tokens}
-use Rattle.cm_syntax.specs.Yields.{placed_of}
-use Rattle.cm_syntax.specs.Refusals.{BeginsProgram, StopsAtToken, StopsAtEnd, Exceeds, Size, is_opening, Refusal, IsRefused, IsAnswer}
+use Rattle.cm_syntax.specs.Token.{LocatedToken, Tokens}
+use Rattle.cm_syntax.specs.Yield.{located_tokens}
+use Rattle.cm_syntax.specs.Refusal.{BeginsProgram, StopsAtToken, StopsAtEnd, Exceeds, Size, is_opening, Refusal, IsRefused, IsAnswer}
 use Rattle.cm_syntax.proofs.TokenLaws.{shorter_front, Tokens-one, token_some}
 use Rattle.cm_syntax.proofs.RefusalLaws.{BeginsProgram-front, token_in_front, Syntax-one}
-use Rattle.cm_syntax.proofs.ProgramLaws.{placed-append}
-use Rattle.cm_syntax.proofs.BoundLaws.{is_small, small_among, Fit, FitsAt, fits_behind, source_fits, not_much, length-placed, no_size}
+use Rattle.cm_syntax.proofs.ProgramLaws.{located-append}
+use Rattle.cm_syntax.proofs.BoundLaws.{is_small, small_among, Fit, FitsAt, fits_behind, source_fits, not_much, length-located, no_size}
 
--- ---- places ascend
+-- ---- offsets ascend
 
--- the places are at least `low`, ascend, and are below `high`
-abbrev Ascend : (low high : ℕ) → List Placed → Type 0
+-- the offsets are at least `low`, ascend, and are below `high`
+abbrev Ascend : (low high : ℕ) → List LocatedToken → Type 0
 Ascend low high [] = low ≤ high
 Ascend low high (t ∷ tokens) = (low ≤ t.at) × (t.at < high) × Ascend (t.at + 1) high tokens
 
-ascend_from : (low less high : ℕ) (tokens : List Placed) → less ≤ low → Ascend low high tokens → Ascend less high tokens
+ascend_from : (low less high : ℕ) (tokens : List LocatedToken) → less ≤ low → Ascend low high tokens → Ascend less high tokens
 ascend_from low less high [] le h = omega (arith, h)
 ascend_from low less high (t ∷ tokens) le h = (omega (arith, h.0), h.1, h.2)
 
-ascend_to : (low high more : ℕ) (tokens : List Placed) → high ≡ more → Ascend low high tokens → Ascend low more tokens
+ascend_to : (low high more : ℕ) (tokens : List LocatedToken) → high ≡ more → Ascend low high tokens → Ascend low more tokens
 ascend_to low high more tokens e h = subst (λ k. Ascend low k tokens) e h
 
-tokens_ascend : {at : ℕ} {bytes : List ℕ} {tokens : List Placed} → Tokens at bytes tokens → Ascend at (at + length bytes) tokens
+tokens_ascend : {at : ℕ} {bytes : List ℕ} {tokens : List LocatedToken} → Tokens at bytes tokens → Ascend at (at + length bytes) tokens
 tokens_ascend Tokens.end = omega arith
 tokens_ascend {at} {tokens = tokens} (Tokens.space {byte = byte} {bytes = bytes} white more) =
     ascend_from (at + 1) at (at + suc (length bytes)) tokens (omega arith) (ascend_to (at + 1) (at + 1 + length bytes) (at + suc (length bytes)) tokens (omega arith) (tokens_ascend more))
@@ -46,57 +46,57 @@ tokens_ascend {at} {bytes} (Tokens.fault f) = some bytes f.some
     some [] no_bytes = absurd (no_bytes refl)
     some (b ∷ bytes) no_bytes = (omega arith, omega arith, omega arith)
 
--- a token's place is below the end, and not above that of a later one
-place_below : (low high : ℕ) (before : List Placed) (t : Placed) (after : List Placed) → Ascend low high (before ++ t ∷ after) → (low ≤ t.at) × (t.at < high)
-place_below low high [] t after h = (h.0, h.1)
-place_below low high (u ∷ before) t after h = let found = place_below (u.at + 1) high before t after h.2 in (omega (arith, h.0, found.0), found.1)
+-- a token's offset is below the end, and not above that of a later one
+offset_below : (low high : ℕ) (before : List LocatedToken) (t : LocatedToken) (after : List LocatedToken) → Ascend low high (before ++ t ∷ after) → (low ≤ t.at) × (t.at < high)
+offset_below low high [] t after h = (h.0, h.1)
+offset_below low high (u ∷ before) t after h = let found = offset_below (u.at + 1) high before t after h.2 in (omega (arith, h.0, found.0), found.1)
 
-place_order : (low high : ℕ) (before : List Placed) (t : Placed) (after later : List Placed) (u : Placed) (rest : List Placed) →
+offset_order : (low high : ℕ) (before : List LocatedToken) (t : LocatedToken) (after later : List LocatedToken) (u : LocatedToken) (rest : List LocatedToken) →
     Ascend low high (before ++ t ∷ after) → before ++ t ∷ after ≡ later ++ u ∷ rest → length before ≤ length later → t.at ≤ u.at
-place_order low high [] t after [] u rest h e le = let same : t ≡ u = cc in omega (arith, ap (λ p. p.at) same)
-place_order low high [] t after (v ∷ later) u rest h e le =
+offset_order low high [] t after [] u rest h e le = let same : t ≡ u = cc in omega (arith, ap (λ p. p.at) same)
+offset_order low high [] t after (v ∷ later) u rest h e le =
     let tails : after ≡ later ++ u ∷ rest = cc in
-    let found = place_below (t.at + 1) high later u rest (subst (Ascend (t.at + 1) high) tails h.2) in omega (arith, found.0)
-place_order low high (v ∷ before) t after [] u rest h e le = absurd (omega arith)
-place_order low high (v ∷ before) t after (x ∷ later) u rest h e le =
+    let found = offset_below (t.at + 1) high later u rest (subst (Ascend (t.at + 1) high) tails h.2) in omega (arith, found.0)
+offset_order low high (v ∷ before) t after [] u rest h e le = absurd (omega arith)
+offset_order low high (v ∷ before) t after (x ∷ later) u rest h e le =
     let tails : before ++ t ∷ after ≡ later ++ u ∷ rest = cc in
-    place_order (v.at + 1) high before t after later u rest h.2 tails (omega arith)
+    offset_order (v.at + 1) high before t after later u rest h.2 tails (omega arith)
 
 -- ---- what passes a limit begins a program
 
-exceeds_begins : (bytes : List ℕ) (at : ℕ) (h : Exceeds bytes at) → BeginsProgram (placed_of h.before ++ h.token.placed ∷ [])
+exceeds_begins : (bytes : List ℕ) (at : ℕ) (h : Exceeds bytes at) → BeginsProgram (located_tokens h.before ++ h.token.located ∷ [])
 exceeds_begins bytes at h = (
-  placed_of h.more,
+  located_tokens h.more,
   (
     h.source,
-    ap placed_of h.begins ∙ (placed-append h.before (h.token ∷ h.more) ∙ sym (append_assoc (placed_of h.before) (h.token.placed ∷ []) (placed_of h.more))),
+    ap located_tokens h.begins ∙ (located-append h.before (h.token ∷ h.more) ∙ sym (append_assoc (located_tokens h.before) (h.token.located ∷ []) (located_tokens h.more))),
   ),
 )
 
-module _ (bytes : List ℕ) (before : List Placed) (token : Placed) (after : List Placed) (read : Tokens 0 bytes (before ++ token ∷ after))
+module _ (bytes : List ℕ) (before : List LocatedToken) (token : LocatedToken) (after : List LocatedToken) (read : Tokens 0 bytes (before ++ token ∷ after))
     (few : length before < 64) (small : list_all is_small before ≡ true) where
   -- no limit is passed at one of the tokens before
   none_before : (at : ℕ) (h : Exceeds bytes at) → length h.before < length before → ⊥
   none_before at h lt =
-      let same : placed_of h.before ++ h.token.placed ∷ h.after ≡ before ++ token ∷ after = Tokens-one h.read read in
-      let found = token_in_front (placed_of h.before) h.after before (token ∷ after) h.token.placed same (omega (arith, length-placed h.before)) in
-      let parts : before ≡ placed_of h.before ++ h.token.placed ∷ found.0 = found.1 ∙ append_assoc (placed_of h.before) (h.token.placed ∷ []) found.0 in
-      let one = small_among (placed_of h.before) h.token.placed found.0 (ap (list_all is_small) (sym parts) ∙ small) in
-      let fits : FitsAt (length h.before) h.token.placed.token h.token.quantity =
-      subst (λ k. FitsAt k h.token.placed.token h.token.quantity) (omega arith) (fits_behind 0 h.before h.token h.more (subst (Fit 0) h.begins (source_fits 0 h.source))) in
+      let same : located_tokens h.before ++ h.token.located ∷ h.after ≡ before ++ token ∷ after = Tokens-one h.read read in
+      let found = token_in_front (located_tokens h.before) h.after before (token ∷ after) h.token.located same (omega (arith, length-located h.before)) in
+      let parts : before ≡ located_tokens h.before ++ h.token.located ∷ found.0 = found.1 ∙ append_assoc (located_tokens h.before) (h.token.located ∷ []) found.0 in
+      let one = small_among (located_tokens h.before) h.token.located found.0 (ap (list_all is_small) (sym parts) ∙ small) in
+      let fits : FitsAt (length h.before) h.token.located.token h.token.quantity =
+      subst (λ k. FitsAt k h.token.located.token h.token.quantity) (omega arith) (fits_behind 0 h.before h.token h.more (subst (Fit 0) h.begins (source_fits 0 h.source))) in
       elim h.much [
-        | inl much ↦ not_much (length h.before) h.token.placed.token h.token.quantity (omega arith) one fits much
+        | inl much ↦ not_much (length h.before) h.token.located.token h.token.quantity (omega arith) one fits much
         | inr nested ↦ absurd (omega (
           arith,
           nested.1,
-          count_by-le-length (λ t. is_opening t.token) (placed_of h.before ++ h.token.placed ∷ []),
-          length-append (placed_of h.before) (h.token.placed ∷ []),
-          length-placed h.before,
+          count_by-le-length (λ t. is_opening t.token) (located_tokens h.before ++ h.token.located ∷ []),
+          length-append (located_tokens h.before) (h.token.located ∷ []),
+          length-located h.before,
         ))
       ]
 
 -- the tokens up to one that is not later begin a program as well
-not_later : (bytes : List ℕ) (a : List Placed) (t : Placed) (b c : List Placed) (u : Placed) (d : List Placed) → Tokens 0 bytes (a ++ t ∷ b) → Tokens 0 bytes (c ++ u ∷ d) →
+not_later : (bytes : List ℕ) (a : List LocatedToken) (t : LocatedToken) (b c : List LocatedToken) (u : LocatedToken) (d : List LocatedToken) → Tokens 0 bytes (a ++ t ∷ b) → Tokens 0 bytes (c ++ u ∷ d) →
     length a ≤ length c → BeginsProgram (c ++ u ∷ []) → BeginsProgram (a ++ t ∷ [])
 not_later bytes a t b c u d read other le begins =
     let same : (a ++ t ∷ []) ++ b ≡ (c ++ u ∷ []) ++ d = append_assoc a (t ∷ []) b ∙ (Tokens-one read other ∙ sym (append_assoc c (u ∷ []) d)) in
@@ -108,49 +108,49 @@ pub answer_at_token : (bytes : List ℕ) (at : ℕ) (h : StopsAtToken bytes at) 
     IsAnswer bytes Refusal.syntax_ at
 answer_at_token bytes at h few small short = record { refused = inl h; least = least; size_first = λ e s. none at s }
   where
-    none : (place : ℕ) → Size bytes place → ⊥
-    none place (inr long) = absurd (omega (arith, long.1))
-    none place (inl e) = elim (cases_lt (length e.before) (length h.before)) [
-      | inl lt ↦ none_before bytes h.before h.token h.after h.read few small place e lt
-      | inr ge ↦ h.no_further (not_later bytes h.before h.token h.after (placed_of e.before) e.token.placed e.after h.read e.read
-          (omega (arith, length-placed e.before)) (exceeds_begins bytes place e))
+    none : (offset : ℕ) → Size bytes offset → ⊥
+    none offset (inr long) = absurd (omega (arith, long.1))
+    none offset (inl e) = elim (cases_lt (length e.before) (length h.before)) [
+      | inl lt ↦ none_before bytes h.before h.token h.after h.read few small offset e lt
+      | inr ge ↦ h.no_further (not_later bytes h.before h.token h.after (located_tokens e.before) e.token.located e.after h.read e.read
+          (omega (arith, length-located e.before)) (exceeds_begins bytes offset e))
     ]
 
-    least : (other : Refusal) (place : ℕ) → IsRefused bytes other place → at ≤ place
-    least Refusal.syntax_ place s = omega (arith, Syntax-one bytes at place (inl h) s)
-    least Refusal.size place s = absurd (none place s)
+    least : (other : Refusal) (offset : ℕ) → IsRefused bytes other offset → at ≤ offset
+    least Refusal.syntax_ offset s = omega (arith, Syntax-one bytes at offset (inl h) s)
+    least Refusal.size offset s = absurd (none offset s)
 
 pub answer_at_end : (bytes : List ℕ) (at : ℕ) (h : StopsAtEnd bytes at) → length h.tokens ≤ 64 → list_all is_small h.tokens ≡ true → length bytes ≤ 65536 →
     IsAnswer bytes Refusal.syntax_ at
 answer_at_end bytes at h few small short = record { refused = inr h; least = least; size_first = λ e s. no_size bytes h.tokens h.read few small short at s }
   where
-    least : (other : Refusal) (place : ℕ) → IsRefused bytes other place → at ≤ place
-    least Refusal.syntax_ place s = omega (arith, Syntax-one bytes at place (inr h) s)
-    least Refusal.size place s = absurd (no_size bytes h.tokens h.read few small short place s)
+    least : (other : Refusal) (offset : ℕ) → IsRefused bytes other offset → at ≤ offset
+    least Refusal.syntax_ offset s = omega (arith, Syntax-one bytes at offset (inr h) s)
+    least Refusal.size offset s = absurd (no_size bytes h.tokens h.read few small short offset s)
 
 -- and so is a size
-pub answer_of_size : (bytes : List ℕ) (at : ℕ) (h : Exceeds bytes at) → length h.before < 64 → list_all is_small (placed_of h.before) ≡ true → length bytes ≤ 65536 →
+pub answer_of_size : (bytes : List ℕ) (at : ℕ) (h : Exceeds bytes at) → length h.before < 64 → list_all is_small (located_tokens h.before) ≡ true → length bytes ≤ 65536 →
     IsAnswer bytes Refusal.size at
 answer_of_size bytes at h few small short = record { refused = inl h; least = least; size_first = λ e. absurd (cc) }
   where
-    ascend : Ascend 0 (length bytes) (placed_of h.before ++ h.token.placed ∷ h.after)
+    ascend : Ascend 0 (length bytes) (located_tokens h.before ++ h.token.located ∷ h.after)
     ascend = ascend_to 0 (0 + length bytes) (length bytes) _ (omega arith) (tokens_ascend h.read)
 
-    least : (other : Refusal) (place : ℕ) → IsRefused bytes other place → at ≤ place
-    least Refusal.syntax_ place (inl s) = elim (cases_lt (length (placed_of h.before)) (length s.before)) [
-      | inl lt ↦ omega (arith, h.place, s.place, place_order 0 (length bytes) (placed_of h.before) h.token.placed h.after s.before s.token s.after ascend (Tokens-one h.read s.read) (omega arith))
-      | inr ge ↦ absurd (s.no_further (not_later bytes s.before s.token s.after (placed_of h.before) h.token.placed h.after s.read h.read ge (exceeds_begins bytes at h)))
+    least : (other : Refusal) (offset : ℕ) → IsRefused bytes other offset → at ≤ offset
+    least Refusal.syntax_ offset (inl s) = elim (cases_lt (length (located_tokens h.before)) (length s.before)) [
+      | inl lt ↦ omega (arith, h.offset, s.offset, offset_order 0 (length bytes) (located_tokens h.before) h.token.located h.after s.before s.token s.after ascend (Tokens-one h.read s.read) (omega arith))
+      | inr ge ↦ absurd (s.no_further (not_later bytes s.before s.token s.after (located_tokens h.before) h.token.located h.after s.read h.read ge (exceeds_begins bytes at h)))
     ]
-    least Refusal.syntax_ place (inr s) =
-        omega (arith, h.place, s.place, (place_below 0 (length bytes) (placed_of h.before) h.token.placed h.after ascend).1)
-    least Refusal.size place (inr long) = absurd (omega (arith, long.1))
-    least Refusal.size place (inl e) = elim (cases_lt (length e.before) (length h.before)) [
-      | inl lt ↦ absurd (none_before bytes (placed_of h.before) h.token.placed h.after h.read (omega (arith, length-placed h.before)) small place e (omega (arith, length-placed h.before)))
+    least Refusal.syntax_ offset (inr s) =
+        omega (arith, h.offset, s.offset, (offset_below 0 (length bytes) (located_tokens h.before) h.token.located h.after ascend).1)
+    least Refusal.size offset (inr long) = absurd (omega (arith, long.1))
+    least Refusal.size offset (inl e) = elim (cases_lt (length e.before) (length h.before)) [
+      | inl lt ↦ absurd (none_before bytes (located_tokens h.before) h.token.located h.after h.read (omega (arith, length-located h.before)) small offset e (omega (arith, length-located h.before)))
       | inr ge ↦ omega (
         arith,
-        h.place,
-        e.place,
-        place_order 0 (length bytes) (placed_of h.before) h.token.placed h.after (placed_of e.before) e.token.placed e.after ascend (Tokens-one h.read e.read)
-            (omega (arith, length-placed h.before, length-placed e.before)),
+        h.offset,
+        e.offset,
+        offset_order 0 (length bytes) (located_tokens h.before) h.token.located h.after (located_tokens e.before) e.token.located e.after ascend (Tokens-one h.read e.read)
+            (omega (arith, length-located h.before, length-located e.before)),
       )
     ]

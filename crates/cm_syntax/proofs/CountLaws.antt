@@ -7,8 +7,8 @@ use Rattle.cm_syntax.specs.declared.name.Name.{Name}
 use Rattle.cm_syntax.specs.declared.stmt.Function.{Function}
 use Rattle.cm_syntax.specs.declared.stmt.Tree.{Tree}
 use Rattle.cm_syntax.specs.Text.{is_same}
-use Rattle.cm_syntax.specs.Names.{function_uses}
-use Rattle.cm_syntax.specs.Faults.{twice, kind, frame, count, fault_at, fault_where, most_frame_words, is_wrong_main, frame_of, use_faults, function_faults, functions_faults, Faulty}
+use Rattle.cm_syntax.specs.Resolution.{function_uses}
+use Rattle.cm_syntax.specs.Fault.{twice, kind, frame, count, fault_at, fault_where, max_frame_words, is_wrong_main, frame_of, use_faults, function_faults, functions_faults, Faulty}
 
 module _ (functions : List (Function Name)) where
   -- a function of index 256 has the fault
@@ -17,7 +17,7 @@ module _ (functions : List (Function Name)) where
       let fault = fault_at f.name.at count in
       let doubled = fault_where (list_any (λ g. is_same g.name.name f.name.name) before) f.name.at twice in
       let misused = fault_where (is_wrong_main functions f) f.name.at kind in
-      let great = fault_where (nat_lt most_frame_words (frame_of functions f)) f.name.at frame in
+      let great = fault_where (nat_lt max_frame_words (frame_of functions f)) f.name.at frame in
       let uses = flat_map (use_faults functions f) (function_uses f) in
       let many = fault ∷ uses in
       Contains-append_right doubled (misused ++ (great ++ many)) fault

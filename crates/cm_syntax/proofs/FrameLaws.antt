@@ -10,15 +10,15 @@ use Rattle.cm_syntax.specs.declared.expr.Arg.TheVariants.{Value}
 use Rattle.cm_syntax.specs.declared.expr.Call as calls
 use Rattle.cm_syntax.specs.declared.expr.Call.{Row_of-Arg, end_of-Arg, more_of-Arg, items-the_row-Arg, items_hidden-the_row-Arg-1}
 use Rattle.cm_syntax.specs.Shape.{Joined, Prefixed, Element, InputAt, Binary-Joined, Unary-Prefixed, Index-Element, Input-InputAt}
-use Rattle.cm_syntax.specs.Frame.{is_short, argument_words, arguments_words, temporaries, arguments_temporaries, argument_temporaries}
+use Rattle.cm_syntax.specs.Frame.{is_short_circuit, argument_words, arguments_words, temporaries, arguments_temporaries, argument_temporaries}
 
 -- ---- the measure of an expression, and what is in use at least
 
 abbrev mutual
   -- what grows at each step up in a tree
   pub size_of : Expr ℕ → ℕ
-  size_of (Element name place) = size_of place + 1
-  size_of (InputAt place) = size_of place + 1
+  size_of (Element name index) = size_of index + 1
+  size_of (InputAt index) = size_of index + 1
   size_of (Prefixed op operand) = size_of operand + 1
   size_of (Joined op left right) = size_of left + size_of right + 1
   size_of (Call' function _ arguments) = row_size arguments + 2
@@ -41,12 +41,12 @@ joined_at_least false d x y z le = omega arith
 pub temporaries_at_least : (e : Expr ℕ) (d : ℕ) → d ≤ temporaries e d
 temporaries_at_least (Number n) d = omega arith
 temporaries_at_least (Scalar name) d = omega arith
-temporaries_at_least (Element name place) d = temporaries_at_least place d
+temporaries_at_least (Element name index) d = temporaries_at_least index d
 temporaries_at_least (Len name) d = omega arith
-temporaries_at_least (InputAt place) d = temporaries_at_least place d
+temporaries_at_least (InputAt index) d = temporaries_at_least index d
 temporaries_at_least Inputs d = omega arith
 temporaries_at_least (Prefixed op operand) d = temporaries_at_least operand d
-temporaries_at_least (Joined op left right) d = joined_at_least (is_short op) d _ _ _ (temporaries_at_least left d)
+temporaries_at_least (Joined op left right) d = joined_at_least (is_short_circuit op) d _ _ _ (temporaries_at_least left d)
 temporaries_at_least (Call' function _ arguments) d = omega arith
 
 -- ---- lists
@@ -62,29 +62,29 @@ pub record Passes (e operand : Expr ℕ) (d : ℕ) : Type 0 where
   pub smaller : size_of operand < size_of e
   pub same : temporaries e d ≡ temporaries operand d
 
-passes : (e place operand : Expr ℕ) (d : ℕ) → size_of e ≡ size_of place + 1 → temporaries e d ≡ temporaries place d →
-    operand ≡ place → Passes e operand d
-passes e place operand d size same is = record {
+passes : (e index operand : Expr ℕ) (d : ℕ) → size_of e ≡ size_of index + 1 → temporaries e d ≡ temporaries index d →
+    operand ≡ index → Passes e operand d
+passes e index operand d size same is = record {
   smaller = omega (arith, ap size_of is);
   same = same ∙ sym (ap (λ x. temporaries x d) is);
 }
 
-pub passes-Index : (e : Expr ℕ) (name : Mark ℕ) (place operand : Expr ℕ) (d : ℕ) → e ≡ Index name place → operand ≡ place →
+pub passes-Index : (e : Expr ℕ) (name : Mark ℕ) (index operand : Expr ℕ) (d : ℕ) → e ≡ Index name index → operand ≡ index →
     Passes e operand d
-passes-Index e name place operand d is got =
-    let shape = is ∙ Index-Element name place in
-    passes e place operand d (ap size_of shape) (ap (λ x. temporaries x d) shape) got
+passes-Index e name index operand d is got =
+    let shape = is ∙ Index-Element name index in
+    passes e index operand d (ap size_of shape) (ap (λ x. temporaries x d) shape) got
 
-pub passes-Input : (e place operand : Expr ℕ) (d : ℕ) → e ≡ Input place → operand ≡ place → Passes e operand d
-passes-Input e place operand d is got =
-    let shape = is ∙ Input-InputAt place in
-    passes e place operand d (ap size_of shape) (ap (λ x. temporaries x d) shape) got
+pub passes-Input : (e index operand : Expr ℕ) (d : ℕ) → e ≡ Input index → operand ≡ index → Passes e operand d
+passes-Input e index operand d is got =
+    let shape = is ∙ Input-InputAt index in
+    passes e index operand d (ap size_of shape) (ap (λ x. temporaries x d) shape) got
 
-pub passes-Unary : (e : Expr ℕ) (op : Op) (place operand : Expr ℕ) (d : ℕ) → e ≡ Unary op place → operand ≡ place →
+pub passes-Unary : (e : Expr ℕ) (op : Op) (index operand : Expr ℕ) (d : ℕ) → e ≡ Unary op index → operand ≡ index →
     Passes e operand d
-passes-Unary e op place operand d is got =
-    let shape = is ∙ Unary-Prefixed op place in
-    passes e place operand d (ap size_of shape) (ap (λ x. temporaries x d) shape) got
+passes-Unary e op index operand d is got =
+    let shape = is ∙ Unary-Prefixed op index in
+    passes e index operand d (ap size_of shape) (ap (λ x. temporaries x d) shape) got
 
 -- e has what its left operand has from d on, and its right one from right_depth on
 pub record Joins (e left right : Expr ℕ) (d right_depth : ℕ) : Type 0 where
@@ -99,12 +99,12 @@ joined_most true d x y le = refl
 joined_most false d x y le = omega arith
 
 pub joins-Binary : (e : Expr ℕ) (op : Op) (left right first second : Expr ℕ) (d : ℕ) → e ≡ Binary op left right →
-    first ≡ left → second ≡ right → Joins e first second d (if is_short op then d else d + 1)
+    first ≡ left → second ≡ right → Joins e first second d (if is_short_circuit op then d else d + 1)
 joins-Binary e op left right first second d is left_is right_is =
     let shape = is ∙ Binary-Joined op left right in
-    let begun = if is_short op then d else d + 1 in
+    let begun = if is_short_circuit op then d else d + 1 in
     let size : size_of e ≡ size_of left + size_of right + 1 = ap size_of shape in
-    let parts = joined_most (is_short op) d (temporaries left d) (temporaries right) (temporaries_at_least right (d + 1)) in
+    let parts = joined_most (is_short_circuit op) d (temporaries left d) (temporaries right) (temporaries_at_least right (d + 1)) in
     let most : temporaries e d ≡ max (temporaries left d) (temporaries right begun) = ap (λ x. temporaries x d) shape ∙ parts in
     record {
       smaller_left = omega (arith, ap size_of left_is);

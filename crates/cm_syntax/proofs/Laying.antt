@@ -11,7 +11,7 @@ use Rattle.std.proofs.lemmas.Fmt.{decimal_digit, decimal_nonempty, first_decimal
 use Rattle.std.proofs.lemmas.Str.Parse.{numerals_by_value, tells_all_ascii_digits}
 use Rattle.cm_syntax.specs.declared.token.Sign.{Sign}
 use Rattle.cm_syntax.specs.Text.{is_space, is_word_byte, is_same, sign_text}
-use Rattle.cm_syntax.specs.Tokens.{Token, Placed, placed, DoesNotBegin, begins, IsName, IsNumber, Spells, OpensComment, IsFirstToken, Tokens}
+use Rattle.cm_syntax.specs.Token.{Token, LocatedToken, token_at, DoesNotBegin, begins, IsName, IsNumber, Spells, OpensComment, IsFirstToken, Tokens}
 use Rattle.cm_syntax.specs.Canonical.{token_text}
 use Rattle.cm_syntax.proofs.Spelling.{all_signs, sign_written-text}
 use Rattle.cm_syntax.proofs.TokenLaws.{word_no_space, word_or_sign, token_some}
@@ -29,14 +29,14 @@ abbrev pub AllWritable : List Token → Type 0
 AllWritable [] = ⊤
 AllWritable (t ∷ ts) = Writable t × AllWritable ts
 
--- the place behind a token and the space after it
+-- the offset behind a token and the space after it
 abbrev pub behind : ℕ → Token → ℕ
 behind at t = at + length (token_text t) + 1
 
--- the tokens with their places, with one space between two of them
-abbrev pub laid : ℕ → List Token → List Placed
+-- the tokens with their offsets, with one space between two of them
+abbrev pub laid : ℕ → List Token → List LocatedToken
 laid at [] = []
-laid at (t ∷ ts) = placed t at ∷ laid (behind at t) ts
+laid at (t ∷ ts) = token_at t at ∷ laid (behind at t) ts
 
 -- ---- how a writable token is spelled
 

@@ -11,7 +11,7 @@ use Rattle.std.proofs.lemmas.Bool.Decides.{nat_tests}
 use Rattle.cm_syntax.specs.declared.token.Keyword.{Keyword}
 use Rattle.cm_syntax.specs.declared.token.Sign.{Sign}
 use Rattle.cm_syntax.specs.Text.{is_space, is_letter, is_word_byte, is_same, keyword_text, sign_text}
-use Rattle.cm_syntax.specs.Tokens.{Token, Placed, DoesNotBegin, begins, is_reserved, IsNumber, Spells, IsApart, IsComment, OpensComment, IsFirstToken, IsFaulty, Tokens}
+use Rattle.cm_syntax.specs.Token.{Token, LocatedToken, DoesNotBegin, begins, is_reserved, IsNumber, Spells, IsApart, IsComment, OpensComment, IsFirstToken, IsFaulty, Tokens}
 use Rattle.cm_syntax.proofs.Spelling.{all_keywords, all_signs, keyword_written, keyword_written-text, keyword_begins, reserved_begins, sign_written, sign_written-text, sign_short, sign_begins, is_same-equal}
 use Rattle.cm_syntax.proofs.TokenLaws.{word_or_sign, token_some, digits_in_word, comment_opens, dropped}
 
@@ -501,7 +501,7 @@ next bytes =
 
 -- The bytes begin so.
 IsNext : List ℕ → Next → Type 0
-IsNext bytes (skips n) = (0 < n) × ((at : ℕ) (tokens : List Placed) → Tokens (at + n) (drop n bytes) tokens → Tokens at bytes tokens)
+IsNext bytes (skips n) = (0 < n) × ((at : ℕ) (tokens : List LocatedToken) → Tokens (at + n) (drop n bytes) tokens → Tokens at bytes tokens)
 IsNext bytes (finds t n) = (text : List ℕ) × (length text ≡ n) × IsFirstToken bytes t text (drop n bytes)
 IsNext bytes fails = IsFaulty bytes
 
@@ -622,13 +622,13 @@ next_stands bytes some = by_space (begins is_space bytes) refl
 -- ---- the whole list
 
 -- what stands next, and the tokens behind so many bytes
-abbrev pub followed : Next → (at : ℕ) → (ℕ → List Placed) → List Placed
+abbrev pub followed : Next → (at : ℕ) → (ℕ → List LocatedToken) → List LocatedToken
 followed (skips n) at more = more n
 followed (finds t n) at more = record { token = t; at = at } ∷ more n
 followed fails at more = record { token = Token.unfit; at = at } ∷ []
 
--- the tokens of the bytes from this place on, in at most so many steps
-abbrev pub lexed : (steps at : ℕ) → List ℕ → List Placed
+-- the tokens of the bytes from this offset on, in at most so many steps
+abbrev pub lexed : (steps at : ℕ) → List ℕ → List LocatedToken
 lexed zero at bytes = []
 lexed (suc steps) at [] = []
 lexed (suc steps) at (b ∷ bytes) = followed (next (b ∷ bytes)) at (λ n. lexed steps (at + n) (drop n (b ∷ bytes)))

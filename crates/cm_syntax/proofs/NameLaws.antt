@@ -19,7 +19,7 @@ use Rattle.cm_syntax.specs.declared.stmt.Stmt.TheVariants as statement
 use Rattle.cm_syntax.specs.declared.stmt.Function.{Function}
 use Rattle.cm_syntax.specs.Shape.{Joined, Prefixed, Element, InputAt, IfAlone, IfElse, WhileLoop, ForLoop}
 use Rattle.cm_syntax.specs.Text.{is_same}
-use Rattle.cm_syntax.specs.Names.{Variable, Scope, named, without, within, declared_in, parts_in, statement_slots, statements_slots, body_slots, function_slots, after_items, past, after, Use, mention, again, expression_uses, arguments_uses, argument_uses, optional_uses, call_uses, target_uses, again_uses, items_uses, spawn_uses, statement_uses, statements_uses, body_uses, function_uses, outermost, Stands}
+use Rattle.cm_syntax.specs.Resolution.{Variable, Scope, lookup, hide, inner_scope, declare_name, split_scope, statement_slots, statements_slots, body_slots, function_slots, declare_items, reserve_slots, scope_after, Use, mention, redeclaration, expression_uses, arguments_uses, argument_uses, optional_uses, call_uses, target_uses, redeclaration_uses, items_uses, spawn_uses, statement_uses, statements_uses, body_uses, function_uses, function_scope, ResolvesTo}
 
 -- ---- each of a list's elements
 
@@ -53,200 +53,200 @@ module _ (all : List Slot) where
   UseAgrees (mention x role v) = MayAgree v
   UseAgrees _ = ⊤
 
-  named_agrees : (known : List Variable) (x : Name) → Each Agrees known → MayAgree (named known x)
+  named_agrees : (visible : List Variable) (x : Name) → Each Agrees visible → MayAgree (lookup visible x)
   named_agrees [] x h = tt
-  named_agrees (v ∷ known) x h = by_test (is_same v.name x) (named_agrees known x h.1)
+  named_agrees (v ∷ visible) x h = by_test (is_same v.name x) (named_agrees visible x h.1)
     where
-      by_test : (b : Bool) → MayAgree (named known x) → MayAgree (cond b (Some v) (named known x))
+      by_test : (b : Bool) → MayAgree (lookup visible x) → MayAgree (cond b (Some v) (lookup visible x))
       by_test true more = h.0
       by_test false more = more
 
-  without_agrees : (x : Name) (known : List Variable) → Each Agrees known → Each Agrees (without x known)
+  without_agrees : (x : Name) (visible : List Variable) → Each Agrees visible → Each Agrees (hide x visible)
   without_agrees x [] h = tt
-  without_agrees x (v ∷ known) h = by_test (is_same v.name x) (without_agrees x known h.1)
+  without_agrees x (v ∷ visible) h = by_test (is_same v.name x) (without_agrees x visible h.1)
     where
-      by_test : (b : Bool) → Each Agrees (without x known) → Each Agrees (if b then known else v ∷ without x known)
+      by_test : (b : Bool) → Each Agrees (hide x visible) → Each Agrees (if b then visible else v ∷ hide x visible)
       by_test true more = h.1
       by_test false more = (h.0, more)
 
   -- what is known agrees, and the next slots are these
   record Fits (scope : Scope) (coming : List Slot) : Type 0 where
-    known : Each Agrees scope.known
+    visible : Each Agrees scope.visible
     before : List Slot
     at : length before ≡ scope.next
     parts : all ≡ before ++ coming
 
-  declared_fits : (scope : Scope) (x : Mark Name) (kind : Slot) (coming : List Slot) → Fits scope (kind ∷ coming) → Fits (declared_in scope x kind) coming
+  declared_fits : (scope : Scope) (x : Mark Name) (kind : Slot) (coming : List Slot) → Fits scope (kind ∷ coming) → Fits (declare_name scope x kind) coming
   declared_fits scope x kind coming h = record {
-    known = (ap (λ s. slice_get s scope.next) h.parts ∙ (ap (slice_get (h.before ++ kind ∷ coming)) (sym h.at) ∙ get_behind h.before kind coming), h.known);
+    visible = (ap (λ s. slice_get s scope.next) h.parts ∙ (ap (slice_get (h.before ++ kind ∷ coming)) (sym h.at) ∙ get_behind h.before kind coming), h.visible);
     before = h.before ++ kind ∷ [];
     at = omega (arith, length-append h.before (kind ∷ []), h.at);
     parts = h.parts ∙ sym (append_assoc h.before (kind ∷ []) coming);
   }
 
-  within_fits : (scope : Scope) (coming : List Slot) → Fits scope coming → Fits (within scope) coming
-  within_fits scope coming h = record { known = h.known; before = h.before; at = h.at; parts = h.parts }
+  within_fits : (scope : Scope) (coming : List Slot) → Fits scope coming → Fits (inner_scope scope) coming
+  within_fits scope coming h = record { visible = h.visible; before = h.before; at = h.at; parts = h.parts }
 
   -- slots of what comes first, and then of the rest
-  past_fits : (scope : Scope) (s : Stmt Name) (coming : List Slot) → Fits scope (statement_slots s ++ coming) → Fits (past scope s) coming
+  past_fits : (scope : Scope) (s : Stmt Name) (coming : List Slot) → Fits scope (statement_slots s ++ coming) → Fits (reserve_slots scope s) coming
   past_fits scope s coming h = record {
-    known = h.known;
+    visible = h.visible;
     before = h.before ++ statement_slots s;
     at = omega (arith, length-append h.before (statement_slots s), h.at);
     parts = h.parts ∙ sym (append_assoc h.before (statement_slots s) coming);
   }
 
-  items_fit : (scope : Scope) (items : List (Item Name)) (coming : List Slot) → Fits scope (map (λ item. item.slot) items ++ coming) → Fits (after_items scope items) coming
+  items_fit : (scope : Scope) (items : List (Item Name)) (coming : List Slot) → Fits scope (map (λ item. item.slot) items ++ coming) → Fits (declare_items scope items) coming
   items_fit scope [] coming h = h
   items_fit scope (item ∷ more) coming h =
-      items_fit (declared_in scope item.name item.slot) more coming (declared_fits scope item.name item.slot (map (λ item. item.slot) more ++ coming) h)
+      items_fit (declare_name scope item.name item.slot) more coming (declared_fits scope item.name item.slot (map (λ item. item.slot) more ++ coming) h)
 
   regrouped : (scope : Scope) (a b coming : List Slot) → Fits scope ((a ++ b) ++ coming) → Fits scope (a ++ (b ++ coming))
-  regrouped scope a b coming h = record { known = h.known; before = h.before; at = h.at; parts = h.parts ∙ ap (λ s. h.before ++ s) (append_assoc a b coming) }
+  regrouped scope a b coming h = record { visible = h.visible; before = h.before; at = h.at; parts = h.parts ∙ ap (λ s. h.before ++ s) (append_assoc a b coming) }
 
   -- ---- uses
 
   mutual
-    expression_agrees : (known : List Variable) (e : Expr Name) → Each Agrees known → Each UseAgrees (expression_uses known e)
-    expression_agrees known (expression.Number value) h = tt
-    expression_agrees known (expression.Scalar x) h = (named_agrees known x.name h, tt)
-    expression_agrees known (Element a place) h = (named_agrees known a.name h, expression_agrees known place h)
-    expression_agrees known (expression.Len a) h = (named_agrees known a.name h, tt)
-    expression_agrees known (InputAt place) h = expression_agrees known place h
-    expression_agrees known expression.Inputs h = tt
-    expression_agrees known (Prefixed op operand) h = expression_agrees known operand h
-    expression_agrees known (Joined op left right) h =
-        Each-append UseAgrees (expression_uses known left) (expression_uses known right) (expression_agrees known left h) (expression_agrees known right h)
-    expression_agrees known (expression.Call' f _ arguments) h = (tt, arguments_agree known arguments h)
+    expression_agrees : (visible : List Variable) (e : Expr Name) → Each Agrees visible → Each UseAgrees (expression_uses visible e)
+    expression_agrees visible (expression.Number value) h = tt
+    expression_agrees visible (expression.Scalar x) h = (named_agrees visible x.name h, tt)
+    expression_agrees visible (Element a index) h = (named_agrees visible a.name h, expression_agrees visible index h)
+    expression_agrees visible (expression.Len a) h = (named_agrees visible a.name h, tt)
+    expression_agrees visible (InputAt index) h = expression_agrees visible index h
+    expression_agrees visible expression.Inputs h = tt
+    expression_agrees visible (Prefixed op operand) h = expression_agrees visible operand h
+    expression_agrees visible (Joined op left right) h =
+        Each-append UseAgrees (expression_uses visible left) (expression_uses visible right) (expression_agrees visible left h) (expression_agrees visible right h)
+    expression_agrees visible (expression.Call' f _ arguments) h = (tt, arguments_agree visible arguments h)
 
-    arguments_agree : {n : _} (known : List Variable) (arguments : Row_of-Arg Name n) → Each Agrees known → Each UseAgrees (arguments_uses known arguments)
-    arguments_agree known end_of-Arg h = tt
-    arguments_agree known (more_of-Arg first more) h =
-        Each-append UseAgrees (argument_uses known first) (arguments_uses known more) (argument_agrees known first h) (arguments_agree known more h)
+    arguments_agree : {n : _} (visible : List Variable) (arguments : Row_of-Arg Name n) → Each Agrees visible → Each UseAgrees (arguments_uses visible arguments)
+    arguments_agree visible end_of-Arg h = tt
+    arguments_agree visible (more_of-Arg first more) h =
+        Each-append UseAgrees (argument_uses visible first) (arguments_uses visible more) (argument_agrees visible first h) (arguments_agree visible more h)
 
-    argument_agrees : (known : List Variable) (one : Arg Name) → Each Agrees known → Each UseAgrees (argument_uses known one)
-    argument_agrees known (argument.Value (expression.Scalar x)) h = (named_agrees known x.name h, tt)
-    argument_agrees known (argument.Value value) h = expression_agrees known value h
-    argument_agrees known (argument.Slice a) h = (named_agrees known a.name h, tt)
-    argument_agrees known (argument.Address x) h = (named_agrees known x.name h, tt)
+    argument_agrees : (visible : List Variable) (one : Arg Name) → Each Agrees visible → Each UseAgrees (argument_uses visible one)
+    argument_agrees visible (argument.Value (expression.Scalar x)) h = (named_agrees visible x.name h, tt)
+    argument_agrees visible (argument.Value value) h = expression_agrees visible value h
+    argument_agrees visible (argument.Slice a) h = (named_agrees visible a.name h, tt)
+    argument_agrees visible (argument.Address x) h = (named_agrees visible x.name h, tt)
 
-  optional_agrees : (known : List Variable) (value : Option (Expr Name)) → Each Agrees known → Each UseAgrees (optional_uses known value)
-  optional_agrees known None h = tt
-  optional_agrees known (Some value) h = expression_agrees known value h
+  optional_agrees : (visible : List Variable) (value : Option (Expr Name)) → Each Agrees visible → Each UseAgrees (optional_uses visible value)
+  optional_agrees visible None h = tt
+  optional_agrees visible (Some value) h = expression_agrees visible value h
 
-  call_agrees : (known : List Variable) (wanted : Bool) (e : Expr Name) → Each Agrees known → Each UseAgrees (call_uses known wanted e)
-  call_agrees known wanted (expression.Call' f _ arguments) h = (tt, arguments_agree known arguments h)
-  call_agrees known wanted _ h = tt
+  call_agrees : (visible : List Variable) (wanted : Bool) (e : Expr Name) → Each Agrees visible → Each UseAgrees (call_uses visible wanted e)
+  call_agrees visible wanted (expression.Call' f _ arguments) h = (tt, arguments_agree visible arguments h)
+  call_agrees visible wanted _ h = tt
 
-  target_agrees : (known : List Variable) (t : Target Name) → Each Agrees known → Each UseAgrees (target_uses known t)
-  target_agrees known (target.Scalar x) h = (named_agrees known x.name h, tt)
-  target_agrees known (target.Index a place) h = (named_agrees known a.name h, expression_agrees known place h)
+  target_agrees : (visible : List Variable) (t : Target Name) → Each Agrees visible → Each UseAgrees (target_uses visible t)
+  target_agrees visible (target.Scalar x) h = (named_agrees visible x.name h, tt)
+  target_agrees visible (target.Index a index) h = (named_agrees visible a.name h, expression_agrees visible index h)
 
-  again_agrees : (scope : Scope) (x : Mark Name) → Each UseAgrees (again_uses scope x)
+  again_agrees : (scope : Scope) (x : Mark Name) → Each UseAgrees (redeclaration_uses scope x)
   again_agrees scope x = by_test (list_any (is_same x.name) scope.here)
     where
-      by_test : (b : Bool) → Each UseAgrees (if b then again x.at ∷ [] else [])
+      by_test : (b : Bool) → Each UseAgrees (if b then redeclaration x.at ∷ [] else [])
       by_test true = (tt, tt)
       by_test false = tt
 
-  doubled_agrees : (b : Bool) (at : ℕ) → Each UseAgrees (if b then again at ∷ [] else [])
+  doubled_agrees : (b : Bool) (at : ℕ) → Each UseAgrees (if b then redeclaration at ∷ [] else [])
   doubled_agrees true at = (tt, tt)
   doubled_agrees false at = tt
 
   items_agree : (scope : Scope) (items : List (Item Name)) (coming : List Slot) → Fits scope (map (λ item. item.slot) items ++ coming) → Each UseAgrees (items_uses scope items)
   items_agree scope [] coming h = tt
   items_agree scope (item ∷ more) coming h =
-      let behind = items_uses (declared_in scope item.name item.slot) more in
-      Each-append UseAgrees (again_uses scope item.name) (optional_uses scope.known item.first ++ behind) (again_agrees scope item.name)
-      (Each-append UseAgrees (optional_uses scope.known item.first) behind (optional_agrees scope.known item.first h.known)
-      (items_agree (declared_in scope item.name item.slot) more coming (declared_fits scope item.name item.slot (map (λ item. item.slot) more ++ coming) h)))
+      let behind = items_uses (declare_name scope item.name item.slot) more in
+      Each-append UseAgrees (redeclaration_uses scope item.name) (optional_uses scope.visible item.first ++ behind) (again_agrees scope item.name)
+      (Each-append UseAgrees (optional_uses scope.visible item.first) behind (optional_agrees scope.visible item.first h.visible)
+      (items_agree (declare_name scope item.name item.slot) more coming (declared_fits scope item.name item.slot (map (λ item. item.slot) more ++ coming) h)))
 
-  spawn_agrees : (known : List Variable) (at : ℕ) (destination : Option (Mark Name)) (call : Call Name) → Each Agrees known → Each UseAgrees (spawn_uses known at destination call)
-  spawn_agrees known at None call h = (tt, call_agrees known false (expression.Call call) h)
-  spawn_agrees known at (Some x) call h = (named_agrees known x.name h, (tt, call_agrees known true (expression.Call call) h))
+  spawn_agrees : (visible : List Variable) (at : ℕ) (destination : Option (Mark Name)) (call : Call Name) → Each Agrees visible → Each UseAgrees (spawn_uses visible at destination call)
+  spawn_agrees visible at None call h = (tt, call_agrees visible false (expression.Call call) h)
+  spawn_agrees visible at (Some x) call h = (named_agrees visible x.name h, (tt, call_agrees visible true (expression.Call call) h))
 
-  after_fits : (scope : Scope) (s : Stmt Name) (coming : List Slot) → Fits scope (statement_slots s ++ coming) → Fits (after scope s) coming
+  after_fits : (scope : Scope) (s : Stmt Name) (coming : List Slot) → Fits scope (statement_slots s ++ coming) → Fits (scope_after scope s) coming
   after_fits scope (statement.Declare items) coming h = items_fit scope items coming h
   after_fits scope s coming h = past_fits scope s coming h
 
-  parts_fit : (scope : Scope) (whole left right : Mark Name) (coming : List Slot) → Fits scope (slot.Slice ∷ slot.Slice ∷ coming) → Fits (parts_in scope whole left right) coming
+  parts_fit : (scope : Scope) (whole left right : Mark Name) (coming : List Slot) → Fits scope (slot.Slice ∷ slot.Slice ∷ coming) → Fits (split_scope scope whole left right) coming
   parts_fit scope whole left right coming h =
-      let hidden : Scope = record { known = without whole.name scope.known; here = []; next = scope.next } in
-      declared_fits (declared_in hidden left slot.Slice) right slot.Slice coming (declared_fits hidden left slot.Slice (slot.Slice ∷ coming)
-      (record { known = without_agrees whole.name scope.known h.known; before = h.before; at = h.at; parts = h.parts }))
+      let hidden : Scope = record { visible = hide whole.name scope.visible; here = []; next = scope.next } in
+      declared_fits (declare_name hidden left slot.Slice) right slot.Slice coming (declared_fits hidden left slot.Slice (slot.Slice ∷ coming)
+      (record { visible = without_agrees whole.name scope.visible h.visible; before = h.before; at = h.at; parts = h.parts }))
 
   mutual
     statement_agrees : (scope : Scope) (s : Stmt Name) (coming : List Slot) → Fits scope (statement_slots s ++ coming) → Each UseAgrees (statement_uses scope s)
     statement_agrees scope statement.Empty coming h = tt
     statement_agrees scope (statement.Declare items) coming h = items_agree scope items coming h
     statement_agrees scope (statement.Assign written op value) coming h =
-        Each-append UseAgrees (target_uses scope.known written) (expression_uses scope.known value) (target_agrees scope.known written h.known) (expression_agrees scope.known value h.known)
-    statement_agrees scope (statement.Call call) coming h = call_agrees scope.known false (expression.Call call) h.known
-    statement_agrees scope (statement.Spawn at destination call) coming h = spawn_agrees scope.known at destination call h.known
+        Each-append UseAgrees (target_uses scope.visible written) (expression_uses scope.visible value) (target_agrees scope.visible written h.visible) (expression_agrees scope.visible value h.visible)
+    statement_agrees scope (statement.Call call) coming h = call_agrees scope.visible false (expression.Call call) h.visible
+    statement_agrees scope (statement.Spawn at destination call) coming h = spawn_agrees scope.visible at destination call h.visible
     statement_agrees scope (statement.Sync at) coming h = (tt, tt)
     statement_agrees scope (IfAlone test chosen) coming h =
-        Each-append UseAgrees (expression_uses scope.known test) (statement_uses (within scope) chosen) (expression_agrees scope.known test h.known)
-        (statement_agrees (within scope) chosen coming (within_fits scope (statement_slots chosen ++ coming) h))
+        Each-append UseAgrees (expression_uses scope.visible test) (statement_uses (inner_scope scope) chosen) (expression_agrees scope.visible test h.visible)
+        (statement_agrees (inner_scope scope) chosen coming (within_fits scope (statement_slots chosen ++ coming) h))
     statement_agrees scope (IfElse test chosen other) coming h =
         let split = regrouped scope (statement_slots chosen) (statement_slots other) coming h in
-        let first = statement_uses (within scope) chosen in
-        let second = statement_uses (within (past scope chosen)) other in
-        Each-append UseAgrees (expression_uses scope.known test) (first ++ second) (expression_agrees scope.known test h.known)
+        let first = statement_uses (inner_scope scope) chosen in
+        let second = statement_uses (inner_scope (reserve_slots scope chosen)) other in
+        Each-append UseAgrees (expression_uses scope.visible test) (first ++ second) (expression_agrees scope.visible test h.visible)
         (Each-append UseAgrees first second
-        (statement_agrees (within scope) chosen (statement_slots other ++ coming) (within_fits scope (statement_slots chosen ++ (statement_slots other ++ coming)) split))
-        (statement_agrees (within (past scope chosen)) other coming
-        (within_fits (past scope chosen) (statement_slots other ++ coming) (past_fits scope chosen (statement_slots other ++ coming) split))))
+        (statement_agrees (inner_scope scope) chosen (statement_slots other ++ coming) (within_fits scope (statement_slots chosen ++ (statement_slots other ++ coming)) split))
+        (statement_agrees (inner_scope (reserve_slots scope chosen)) other coming
+        (within_fits (reserve_slots scope chosen) (statement_slots other ++ coming) (past_fits scope chosen (statement_slots other ++ coming) split))))
     statement_agrees scope (WhileLoop test body) coming h =
-        Each-append UseAgrees (expression_uses scope.known test) (statement_uses (within scope) body) (expression_agrees scope.known test h.known)
-        (statement_agrees (within scope) body coming (within_fits scope (statement_slots body ++ coming) h))
+        Each-append UseAgrees (expression_uses scope.visible test) (statement_uses (inner_scope scope) body) (expression_agrees scope.visible test h.visible)
+        (statement_agrees (inner_scope scope) body coming (within_fits scope (statement_slots body ++ coming) h))
     statement_agrees scope (ForLoop first test step body) coming h =
-        let inner = within scope in
-        let header = after inner first in
+        let inner = inner_scope scope in
+        let header = scope_after inner first in
         let rest = statement_slots step ++ statement_slots body in
         let outer = within_fits scope _ (regrouped scope (statement_slots first) rest coming h) in
         let behind = after_fits inner first (rest ++ coming) outer in
         let split = regrouped header (statement_slots step) (statement_slots body) coming behind in
         let third = statement_uses header step in
-        let fourth = statement_uses (within (past header step)) body in
-        Each-append UseAgrees (statement_uses inner first) (optional_uses header.known test ++ (third ++ fourth)) (statement_agrees inner first (rest ++ coming) outer)
-        (Each-append UseAgrees (optional_uses header.known test) (third ++ fourth) (optional_agrees header.known test behind.known)
+        let fourth = statement_uses (inner_scope (reserve_slots header step)) body in
+        Each-append UseAgrees (statement_uses inner first) (optional_uses header.visible test ++ (third ++ fourth)) (statement_agrees inner first (rest ++ coming) outer)
+        (Each-append UseAgrees (optional_uses header.visible test) (third ++ fourth) (optional_agrees header.visible test behind.visible)
         (Each-append UseAgrees third fourth (statement_agrees header step (statement_slots body ++ coming) split)
-        (statement_agrees (within (past header step)) body coming
-        (within_fits (past header step) (statement_slots body ++ coming) (past_fits header step (statement_slots body ++ coming) split)))))
-    statement_agrees scope (statement.Split' whole place left right _ body close) coming h =
-        let parts = within (parts_in scope whole left right) in
-        let doubled = if is_same left.name right.name then again right.at ∷ [] else [] in (
-          named_agrees scope.known whole.name h.known,
-          Each-append UseAgrees (expression_uses scope.known place) (doubled ++ statements_uses parts body) (expression_agrees scope.known place h.known)
+        (statement_agrees (inner_scope (reserve_slots header step)) body coming
+        (within_fits (reserve_slots header step) (statement_slots body ++ coming) (past_fits header step (statement_slots body ++ coming) split)))))
+    statement_agrees scope (statement.Split' whole index left right _ body close) coming h =
+        let parts = inner_scope (split_scope scope whole left right) in
+        let doubled = if is_same left.name right.name then redeclaration right.at ∷ [] else [] in (
+          named_agrees scope.visible whole.name h.visible,
+          Each-append UseAgrees (expression_uses scope.visible index) (doubled ++ statements_uses parts body) (expression_agrees scope.visible index h.visible)
               (Each-append UseAgrees doubled (statements_uses parts body) (doubled_agrees (is_same left.name right.name) right.at)
-              (statements_agree parts body coming (within_fits (parts_in scope whole left right) (statements_slots body ++ coming)
+              (statements_agree parts body coming (within_fits (split_scope scope whole left right) (statements_slots body ++ coming)
               (parts_fit scope whole left right (statements_slots body ++ coming) h)))),
         )
-    statement_agrees scope (statement.Return at value) coming h = (tt, optional_agrees scope.known value h.known)
-    statement_agrees scope (statement.Print value) coming h = expression_agrees scope.known value h.known
-    statement_agrees scope (statement.Block' _ body) coming h = statements_agree (within scope) body coming (within_fits scope (statements_slots body ++ coming) h)
+    statement_agrees scope (statement.Return at value) coming h = (tt, optional_agrees scope.visible value h.visible)
+    statement_agrees scope (statement.Print value) coming h = expression_agrees scope.visible value h.visible
+    statement_agrees scope (statement.Block' _ body) coming h = statements_agree (inner_scope scope) body coming (within_fits scope (statements_slots body ++ coming) h)
 
     statements_agree : {n : _} (scope : Scope) (ss : Row_of-Stmt Name n) (coming : List Slot) → Fits scope (statements_slots ss ++ coming) → Each UseAgrees (statements_uses scope ss)
     statements_agree scope end_of-Stmt coming h = tt
     statements_agree scope (more_of-Stmt first more) coming h =
         let split = regrouped scope (statement_slots first) (statements_slots more) coming h in
-        Each-append UseAgrees (statement_uses scope first) (statements_uses (after scope first) more) (statement_agrees scope first (statements_slots more ++ coming) split)
-        (statements_agree (after scope first) more coming (after_fits scope first (statements_slots more ++ coming) split))
+        Each-append UseAgrees (statement_uses scope first) (statements_uses (scope_after scope first) more) (statement_agrees scope first (statements_slots more ++ coming) split)
+        (statements_agree (scope_after scope first) more coming (after_fits scope first (statements_slots more ++ coming) split))
 
   body_agrees : (scope : Scope) (ss : List (Stmt Name)) (coming : List Slot) → Fits scope (body_slots ss ++ coming) → Each UseAgrees (body_uses scope ss)
   body_agrees scope [] coming h = tt
   body_agrees scope (first ∷ more) coming h =
       let split = regrouped scope (statement_slots first) (body_slots more) coming h in
-      Each-append UseAgrees (statement_uses scope first) (body_uses (after scope first) more) (statement_agrees scope first (body_slots more ++ coming) split)
-      (body_agrees (after scope first) more coming (after_fits scope first (body_slots more ++ coming) split))
+      Each-append UseAgrees (statement_uses scope first) (body_uses (scope_after scope first) more) (statement_agrees scope first (body_slots more ++ coming) split)
+      (body_agrees (scope_after scope first) more coming (after_fits scope first (body_slots more ++ coming) split))
 
 -- each mention of a function stands for a variable whose slot is of its kind
-pub Stands-slot : (f : Function Name) (i : ℕ) (v : Variable) → Stands f i v → slice_get (function_slots f) v.slot ≡ Some v.kind
-Stands-slot f i v (x, role, is) =
+pub ResolvesTo-slot : (f : Function Name) (i : ℕ) (v : Variable) → ResolvesTo f i v → slice_get (function_slots f) v.slot ≡ Some v.kind
+ResolvesTo-slot f i v (x, role, is) =
     let all = function_slots f in
-    let start : Fits all outermost (map (λ item. item.slot) f.parameters ++ body_slots f.body) = record { known = tt; before = []; at = refl; parts = refl } in
-    let behind : Fits all (after_items outermost f.parameters) (body_slots f.body ++ []) =
-    items_fit all outermost f.parameters (body_slots f.body ++ []) (subst (λ s. Fits all outermost (map (λ item. item.slot) f.parameters ++ s)) (sym (append-nil (body_slots f.body))) start) in
+    let start : Fits all function_scope (map (λ item. item.slot) f.parameters ++ body_slots f.body) = record { visible = tt; before = []; at = refl; parts = refl } in
+    let behind : Fits all (declare_items function_scope f.parameters) (body_slots f.body ++ []) =
+    items_fit all function_scope f.parameters (body_slots f.body ++ []) (subst (λ s. Fits all function_scope (map (λ item. item.slot) f.parameters ++ s)) (sym (append-nil (body_slots f.body))) start) in
     Each-at (UseAgrees all) (function_uses f) i (mention x role (Some v))
-    (Each-append (UseAgrees all) (items_uses outermost f.parameters) (body_uses (after_items outermost f.parameters) f.body)
-    (items_agree all outermost f.parameters (body_slots f.body) start) (body_agrees all (after_items outermost f.parameters) f.body [] behind)) is
+    (Each-append (UseAgrees all) (items_uses function_scope f.parameters) (body_uses (declare_items function_scope f.parameters) f.body)
+    (items_agree all function_scope f.parameters (body_slots f.body) start) (body_agrees all (declare_items function_scope f.parameters) f.body [] behind)) is

@@ -2,8 +2,8 @@
 use Rattle.std.proofs.Common.{◌≡◌, ℕ, List, [], ◌∷◌, Some, refl, sym, ap, ◌∙◌, subst, arith}
 use Rattle.std.specs.Prelude.{slice_get}
 use Rattle.cm_syntax.specs.declared.stmt.Tree.{Tree}
-use Rattle.cm_syntax.specs.Refusals.{Refusal, syntax_, size, IsAnswer}
-use Rattle.cm_syntax.specs.Faults.{Variant, unknown, twice, arity, kind, no_main, frame, count, rank, IsNameAnswer}
+use Rattle.cm_syntax.specs.Refusal.{Refusal, syntax_, size, IsAnswer}
+use Rattle.cm_syntax.specs.Fault.{Variant, unknown, twice, arity, kind, no_main, frame, count, rank, IsNameAnswer}
 
 -- ---- of a source
 

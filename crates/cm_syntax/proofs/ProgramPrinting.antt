@@ -1,4 +1,4 @@
--- The canonical text of each statement, function and program has a parse tree, which stands for it in all but places.
+-- The canonical text of each statement, function and program has a parse tree, which stands for it in all but offsets.
 use Rattle.std.proofs.Common.{◌≡◌, ℕ, ◌+◌, Bool, List, [], ◌∷◌, ◌++◌, length, refl, sym, ap, ◌∙◌, subst, append_assoc, append-nil, Option, None, Some}
 use Rattle.std.specs.Prelude.{if◌then◌else◌, map, is_some}
 use Rattle.cm_syntax.specs.declared.name.Name.{Name}
@@ -12,18 +12,19 @@ use Rattle.cm_syntax.specs.declared.stmt.Stmt.{Stmt}
 use Rattle.cm_syntax.specs.declared.stmt.Stmt.TheVariants as statement
 use Rattle.cm_syntax.specs.declared.stmt.Function.{Function}
 use Rattle.cm_syntax.specs.declared.stmt.Tree.{Tree}
-use Rattle.cm_syntax.specs.Tokens.{Token, Tokens}
-use Rattle.cm_syntax.specs.Trees.{Place, Declaration, Simple, First, Plain, Statements, Parameter, Several, Parameters, Definition, Source}
-use Rattle.cm_syntax.specs.Yields.{Quantity, Counted, any_tokens, optional_tokens, declaration_tokens, simple_tokens, first_tokens, step_tokens, plain_tokens, statements_tokens, parameter_tokens, several_tokens, parameters_tokens, marking_tokens, definition_tokens, source_tokens, invocation_tokens, placed_of}
-use Rattle.cm_syntax.specs.Meaning.{any_of, optional_of, declarators_of, declaration_of, simple_of, first_of, step_part_of, plain_of, statements_of, parameter_of, several_of, parameters_of, definition_of, functions_of, invocation_of}
+use Rattle.cm_syntax.specs.Token.{Token, Tokens}
+use Rattle.cm_syntax.specs.ParseTree.{Offset, Declaration, Simple, FirstPart, Plain, Statements, Parameter, ParameterList, Parameters}
+use Rattle.cm_syntax.specs.ParseTree as grammar
+use Rattle.cm_syntax.specs.Yield.{Quantity, CountedToken, any_tokens, optional_tokens, declaration_tokens, simple_tokens, first_part_tokens, last_part_tokens, plain_tokens, statements_tokens, parameter_tokens, parameter_list_tokens, parameters_tokens, cilk_tokens, function_tokens, program_tokens, call_tokens, located_tokens}
+use Rattle.cm_syntax.specs.Lowering.{lower_any, lower_optional, lower_items, lower_declaration, lower_simple, lower_first_part, lower_last_part, lower_plain, lower_statements, lower_parameter, lower_parameter_list, lower_parameters, lower_function, lower_program, lower_call}
 use Rattle.cm_syntax.specs.Grammar.{IsSourceOf}
-use Rattle.cm_syntax.specs.Refusals.{IsSoundTree}
-use Rattle.cm_syntax.specs.Canonical.{sign_token, word_token, expression_text, optional_text, item_text, items_text, simple_text, tested_text, statement_text, body_text, parameters_text, function_text, functions_text, canonical}
-use Rattle.cm_syntax.specs.Places.{bare, bare_item, bare_statement, bare_function, without_places}
+use Rattle.cm_syntax.specs.Refusal.{IsSoundTree}
+use Rattle.cm_syntax.specs.Canonical.{sign_token, word_token, expression_text, optional_text, item_text, items_text, simple_text, condition_text, statement_text, body_text, parameters_text, function_text, functions_text, canonical}
+use Rattle.cm_syntax.specs.Offset.{bare, bare_item, bare_statement, bare_function, without_offsets}
 use Rattle.cm_syntax.proofs.Laying.{AllWritable, behind, laid, laid_tokens}
 use Rattle.cm_syntax.proofs.SoundTokens.{sound_written}
 use Rattle.cm_syntax.proofs.TextLaws.{text-If, bare-If, text-Else, bare-Else, text-While, bare-While, text-For, bare-For, text-Block, bare-Block, text-Split, bare-Split}
-use Rattle.cm_syntax.proofs.Printing.{past, Lays, none, one, both, as_text, Written, front_written, back_written, moved, print_call}
+use Rattle.cm_syntax.proofs.Printing.{past, Lays, none, one, both, as_text, AreWritable, front_writable, back_writable, moved, print_call}
 use Rattle.cm_syntax.proofs.StatementPrinting.{print_any, print_optional, print_items, print_simple}
 
 -- ---- the parts of a `for`
@@ -31,9 +32,9 @@ use Rattle.cm_syntax.proofs.StatementPrinting.{print_any, print_optional, print_
 record PrintedDeclaration (at : ℕ) (items : List (Item Name)) : Type 0 where
   parse : Declaration
   lays : (first : Quantity) → Lays at (declaration_tokens first parse) (word_token keyword.Int ∷ items_text items)
-  same : bare_statement (declaration_of parse) ≡ bare_statement (statement.Declare items)
+  same : bare_statement (lower_declaration parse) ≡ bare_statement (statement.Declare items)
 
-print_declaration : (first : Quantity) (d : Declaration) → Written (declaration_tokens first d) → (at : ℕ) → PrintedDeclaration at (declarators_of d.declarators)
+print_declaration : (first : Quantity) (d : Declaration) → AreWritable (declaration_tokens first d) → (at : ℕ) → PrintedDeclaration at (lower_items d.declarators)
 print_declaration first d w at =
     let printed = print_items d.declarators w.1 (behind at (Token.keyword keyword.Int)) in
     record {
@@ -43,25 +44,25 @@ print_declaration first d w at =
     }
 
 record PrintedFirst (at : ℕ) (s : Stmt Name) : Type 0 where
-  parse : First
-  lays : Lays at (first_tokens parse) (simple_text s)
-  same : bare_statement (first_of parse) ≡ bare_statement s
+  parse : FirstPart
+  lays : Lays at (first_part_tokens parse) (simple_text s)
+  same : bare_statement (lower_first_part parse) ≡ bare_statement s
 
-print_first : (p : First) → Written (first_tokens p) → (at : ℕ) → PrintedFirst at (first_of p)
-print_first First.nothing w at = record { parse = First.nothing; lays = none; same = refl }
-print_first (First.declare d) w at =
+print_first : (p : FirstPart) → AreWritable (first_part_tokens p) → (at : ℕ) → PrintedFirst at (lower_first_part p)
+print_first FirstPart.nothing w at = record { parse = FirstPart.nothing; lays = none; same = refl }
+print_first (FirstPart.declare d) w at =
     let printed = print_declaration Quantity.nothing d w at in
-    record { parse = First.declare printed.parse; lays = printed.lays Quantity.nothing; same = printed.same }
-print_first (First.simple s) w at =
+    record { parse = FirstPart.declare printed.parse; lays = printed.lays Quantity.nothing; same = printed.same }
+print_first (FirstPart.simple s) w at =
     let printed = print_simple Quantity.nothing s w at in
-    record { parse = First.simple printed.parse; lays = printed.lays Quantity.nothing; same = printed.same }
+    record { parse = FirstPart.simple printed.parse; lays = printed.lays Quantity.nothing; same = printed.same }
 
 record PrintedStep (at : ℕ) (s : Stmt Name) : Type 0 where
   parse : Option Simple
-  lays : Lays at (step_tokens parse) (simple_text s)
-  same : bare_statement (step_part_of parse) ≡ bare_statement s
+  lays : Lays at (last_part_tokens parse) (simple_text s)
+  same : bare_statement (lower_last_part parse) ≡ bare_statement s
 
-print_step : (p : Option Simple) → Written (step_tokens p) → (at : ℕ) → PrintedStep at (step_part_of p)
+print_step : (p : Option Simple) → AreWritable (last_part_tokens p) → (at : ℕ) → PrintedStep at (lower_last_part p)
 print_step None w at = record { parse = None; lays = none; same = refl }
 print_step (Some s) w at =
     let printed = print_simple Quantity.nothing s w at in
@@ -69,32 +70,32 @@ print_step (Some s) w at =
 
 -- ---- statements
 
-simple_ends : (p : Simple) → statement_text (simple_of p) ≡ simple_text (simple_of p) ++ sign_token sign.Semicolon ∷ []
+simple_ends : (p : Simple) → statement_text (lower_simple p) ≡ simple_text (lower_simple p) ++ sign_token sign.Semicolon ∷ []
 simple_ends (Simple.assign target at value) = refl
 simple_ends (Simple.update target op updates at value) = refl
 simple_ends (Simple.step_after target up at) = refl
 simple_ends (Simple.step_before up at target) = refl
 simple_ends (Simple.call call) = refl
 
-tested : (k : Keyword) (test : Expr Name) (after : List Token) → tested_text k test ++ after ≡
+tested : (k : Keyword) (test : Expr Name) (after : List Token) → condition_text k test ++ after ≡
     word_token k ∷ sign_token sign.ParenOpen ∷ (expression_text test ++ (sign_token sign.ParenClose ∷ after))
 tested k test after = ap (λ x. word_token k ∷ sign_token sign.ParenOpen ∷ x) (append_assoc (expression_text test) (sign_token sign.ParenClose ∷ []) after)
 
 record PrintedPlain (is_open : Bool) (at : ℕ) (s : Stmt Name) : Type 0 where
   parse : Plain is_open
   lays : (d inner : ℕ) → Lays at (plain_tokens d inner parse) (statement_text s)
-  same : bare_statement (plain_of parse) ≡ bare_statement s
+  same : bare_statement (lower_plain parse) ≡ bare_statement s
 
 record PrintedBody (at : ℕ) (body : List (Stmt Name)) : Type 0 where
   parse : Statements
   lays : (d : ℕ) → Lays at (statements_tokens d parse) (body_text body)
-  same : map bare_statement (statements_of parse) ≡ map bare_statement body
+  same : map bare_statement (lower_statements parse) ≡ map bare_statement body
 
 mutual
-  print_plain : {is_open : Bool} (d inner : ℕ) (p : Plain is_open) → Written (plain_tokens d inner p) → (at : ℕ) → PrintedPlain is_open at (plain_of p)
+  print_plain : {is_open : Bool} (d inner : ℕ) (p : Plain is_open) → AreWritable (plain_tokens d inner p) → (at : ℕ) → PrintedPlain is_open at (lower_plain p)
   print_plain d inner (Plain.simple s semicolon) w at =
-      let printed = print_simple (Quantity.depth d) s (front_written (simple_tokens (Quantity.depth d) s) _ w) at in
-      let text = simple_text (simple_of s) in
+      let printed = print_simple (Quantity.depth d) s (front_writable (simple_tokens (Quantity.depth d) s) _ w) at in
+      let text = simple_text (lower_simple s) in
       record {
         parse = Plain.simple printed.parse (past at text);
         lays = λ d inner. as_text (simple_ends s) (both text (printed.lays (Quantity.depth d)) (one (Token.sign sign.Semicolon) tt none));
@@ -102,41 +103,41 @@ mutual
       }
   print_plain d inner (Plain.empty _) w at = record { parse = Plain.empty at; lays = λ d inner. one (Token.sign sign.Semicolon) tt none; same = refl }
   print_plain d inner (Plain.block _ body _) w at =
-      let all = statements_of body in
+      let all = lower_statements body in
       let opened = behind at (Token.sign sign.BraceOpen) in
-      let printed = print_body inner body (front_written (statements_tokens inner body) _ w.1) opened in
+      let printed = print_body inner body (front_writable (statements_tokens inner body) _ w.1) opened in
       record {
         parse = Plain.block at printed.parse (past opened (body_text all));
         lays = λ d inner. as_text (text-Block all) (one (Token.sign sign.BraceOpen) tt (both (body_text all) (printed.lays inner) (one (Token.sign sign.BraceClose) tt none)));
-        same = bare-Block (statements_of printed.parse) ∙ (ap statement.Block printed.same ∙ sym (bare-Block all));
+        same = bare-Block (lower_statements printed.parse) ∙ (ap statement.Block printed.same ∙ sym (bare-Block all));
       }
   print_plain d inner (Plain.if_alone _ _ test _ chosen) w at =
-      let e = any_of test in
-      let s = plain_of chosen in
+      let e = lower_any test in
+      let s = lower_plain chosen in
       let inside = behind (behind at (Token.keyword keyword.If)) (Token.sign sign.ParenOpen) in
-      let condition = print_any test (front_written (any_tokens test) _ w.1.1) inside in
+      let condition = print_any test (front_writable (any_tokens test) _ w.1.1) inside in
       let closing = past inside (expression_text e) in
-      let more = back_written (any_tokens test) _ w.1.1 in
+      let more = back_writable (any_tokens test) _ w.1.1 in
       let first = print_plain (d + 1) (d + 1) chosen more.1 (behind closing (Token.sign sign.ParenClose)) in
       record {
         parse = Plain.if_alone at (behind at (Token.keyword keyword.If)) condition.parse closing first.parse;
         lays = λ d inner. as_text (text-If e s ∙ tested keyword.If e (statement_text s))
             (one (Token.keyword keyword.If) tt (one (Token.sign sign.ParenOpen) tt (both (expression_text e) condition.lays
             (one (Token.sign sign.ParenClose) tt (first.lays (d + 1) (d + 1))))));
-        same = bare-If (any_of condition.parse) (plain_of first.parse) ∙
+        same = bare-If (lower_any condition.parse) (lower_plain first.parse) ∙
             ((λ i. statement.If (condition.same i) (first.same i) None) ∙ sym (bare-If e s));
       }
   print_plain d inner (Plain.if_else _ _ test _ chosen _ other) w at =
-      let e = any_of test in
-      let s = plain_of chosen in
-      let t = plain_of other in
+      let e = lower_any test in
+      let s = lower_plain chosen in
+      let t = lower_plain other in
       let inside = behind (behind at (Token.keyword keyword.If)) (Token.sign sign.ParenOpen) in
-      let condition = print_any test (front_written (any_tokens test) _ w.1.1) inside in
+      let condition = print_any test (front_writable (any_tokens test) _ w.1.1) inside in
       let closing = past inside (expression_text e) in
-      let more = back_written (any_tokens test) _ w.1.1 in
+      let more = back_writable (any_tokens test) _ w.1.1 in
       let start = behind closing (Token.sign sign.ParenClose) in
-      let first = print_plain (d + 1) (d + 1) chosen (front_written (plain_tokens (d + 1) (d + 1) chosen) _ more.1) start in
-      let rest = back_written (plain_tokens (d + 1) (d + 1) chosen) _ more.1 in
+      let first = print_plain (d + 1) (d + 1) chosen (front_writable (plain_tokens (d + 1) (d + 1) chosen) _ more.1) start in
+      let rest = back_writable (plain_tokens (d + 1) (d + 1) chosen) _ more.1 in
       let word = past start (statement_text s) in
       let second = print_plain (d + 1) (d + 1) other rest.1 (behind word (Token.keyword keyword.Else)) in
       record {
@@ -145,39 +146,39 @@ mutual
             (one (Token.keyword keyword.If) tt (one (Token.sign sign.ParenOpen) tt (both (expression_text e) condition.lays
             (one (Token.sign sign.ParenClose) tt (both (statement_text s) (first.lays (d + 1) (d + 1))
             (one (Token.keyword keyword.Else) tt (second.lays (d + 1) (d + 1))))))));
-        same = bare-Else (any_of condition.parse) (plain_of first.parse) (plain_of second.parse) ∙
+        same = bare-Else (lower_any condition.parse) (lower_plain first.parse) (lower_plain second.parse) ∙
             ((λ i. statement.If (condition.same i) (first.same i) (Some (second.same i))) ∙ sym (bare-Else e s t));
       }
   print_plain d inner (Plain.while _ _ test _ body) w at =
-      let e = any_of test in
-      let s = plain_of body in
+      let e = lower_any test in
+      let s = lower_plain body in
       let inside = behind (behind at (Token.keyword keyword.While)) (Token.sign sign.ParenOpen) in
-      let condition = print_any test (front_written (any_tokens test) _ w.1.1) inside in
+      let condition = print_any test (front_writable (any_tokens test) _ w.1.1) inside in
       let closing = past inside (expression_text e) in
-      let more = back_written (any_tokens test) _ w.1.1 in
+      let more = back_writable (any_tokens test) _ w.1.1 in
       let turn = print_plain (d + 1) (d + 1) body more.1 (behind closing (Token.sign sign.ParenClose)) in
       record {
         parse = Plain.while at (behind at (Token.keyword keyword.While)) condition.parse closing turn.parse;
         lays = λ d inner. as_text (text-While e s ∙ tested keyword.While e (statement_text s))
             (one (Token.keyword keyword.While) tt (one (Token.sign sign.ParenOpen) tt (both (expression_text e) condition.lays
             (one (Token.sign sign.ParenClose) tt (turn.lays (d + 1) (d + 1))))));
-        same = bare-While (any_of condition.parse) (plain_of turn.parse) ∙
+        same = bare-While (lower_any condition.parse) (lower_plain turn.parse) ∙
             ((λ i. statement.While (condition.same i) (turn.same i)) ∙ sym (bare-While e s));
       }
   print_plain d inner (Plain.for _ _ first _ test _ step _ body) w at =
-      let a = first_of first in
-      let e = optional_of test in
-      let c = step_part_of step in
-      let s = plain_of body in
+      let a = lower_first_part first in
+      let e = lower_optional test in
+      let c = lower_last_part step in
+      let s = lower_plain body in
       let p1 = behind (behind at (Token.keyword keyword.For)) (Token.sign sign.ParenOpen) in
-      let one_part = print_first first (front_written (first_tokens first) _ w.1.1) p1 in
-      let w2 = back_written (first_tokens first) _ w.1.1 in
+      let one_part = print_first first (front_writable (first_part_tokens first) _ w.1.1) p1 in
+      let w2 = back_writable (first_part_tokens first) _ w.1.1 in
       let p2 = behind (past p1 (simple_text a)) (Token.sign sign.Semicolon) in
-      let two_part = print_optional test (front_written (optional_tokens test) _ w2.1) p2 in
-      let w3 = back_written (optional_tokens test) _ w2.1 in
+      let two_part = print_optional test (front_writable (optional_tokens test) _ w2.1) p2 in
+      let w3 = back_writable (optional_tokens test) _ w2.1 in
       let p3 = behind (past p2 (optional_text e)) (Token.sign sign.Semicolon) in
-      let three_part = print_step step (front_written (step_tokens step) _ w3.1) p3 in
-      let w4 = back_written (step_tokens step) _ w3.1 in
+      let three_part = print_step step (front_writable (last_part_tokens step) _ w3.1) p3 in
+      let w4 = back_writable (last_part_tokens step) _ w3.1 in
       let p4 = behind (past p3 (simple_text c)) (Token.sign sign.ParenClose) in
       let turn = print_plain (d + 1) (d + 1) body w4.1 p4 in
       record {
@@ -186,41 +187,41 @@ mutual
             (one (Token.keyword keyword.For) tt (one (Token.sign sign.ParenOpen) tt (both (simple_text a) one_part.lays (one (Token.sign sign.Semicolon) tt
             (both (optional_text e) two_part.lays (one (Token.sign sign.Semicolon) tt (both (simple_text c) three_part.lays
             (one (Token.sign sign.ParenClose) tt (turn.lays (d + 1) (d + 1))))))))));
-        same = bare-For (first_of one_part.parse) (optional_of two_part.parse) (step_part_of three_part.parse) (plain_of turn.parse) ∙
+        same = bare-For (lower_first_part one_part.parse) (lower_optional two_part.parse) (lower_last_part three_part.parse) (lower_plain turn.parse) ∙
             ((λ i. statement.For (one_part.same i) (two_part.same i) (three_part.same i) (turn.same i)) ∙ sym (bare-For a e c s));
       }
-  print_plain d inner (Plain.split _ whole _ place _ left _ right _ body close) w at =
-      let e = any_of place in
-      let all = statements_of body in
+  print_plain d inner (Plain.split _ whole _ index _ left _ right _ body close) w at =
+      let e = lower_any index in
+      let all = lower_statements body in
       let p1 = behind (behind (behind at (Token.keyword keyword.Split)) (Token.name whole.name)) (Token.keyword keyword.At) in
-      let cut = print_any place (front_written (any_tokens place) _ w.1.1.1) p1 in
-      let w2 = back_written (any_tokens place) _ w.1.1.1 in
+      let cut = print_any index (front_writable (any_tokens index) _ w.1.1.1) p1 in
+      let w2 = back_writable (any_tokens index) _ w.1.1.1 in
       let p2 = past p1 (expression_text e) in
       let p3 = behind p2 (Token.keyword keyword.As) in
       let p4 = behind (behind p3 (Token.name left.name)) (Token.sign sign.Comma) in
       let p5 = behind (behind p4 (Token.name right.name)) (Token.sign sign.BraceOpen) in
-      let inside = print_body (d + 1) body (front_written (statements_tokens (d + 1) body) _ w2.1.1.1.1.1) p5 in
+      let inside = print_body (d + 1) body (front_writable (statements_tokens (d + 1) body) _ w2.1.1.1.1.1) p5 in
       record {
         parse = Plain.split at (moved whole (behind at (Token.keyword keyword.Split))) _ cut.parse p2 (moved left p3) _ (moved right p4) _ inside.parse (past p5 (body_text all));
         lays = λ d inner. as_text (text-Split whole e left right all close)
             (one (Token.keyword keyword.Split) tt (one (Token.name whole.name) w.1.0 (one (Token.keyword keyword.At) tt (both (expression_text e) cut.lays
             (one (Token.keyword keyword.As) tt (one (Token.name left.name) w2.1.0 (one (Token.sign sign.Comma) tt (one (Token.name right.name) w2.1.1.1.0
             (one (Token.sign sign.BraceOpen) tt (both (body_text all) (inside.lays (d + 1)) (one (Token.sign sign.BraceClose) tt none)))))))))));
-        same = bare-Split (moved whole (behind at (Token.keyword keyword.Split))) (any_of cut.parse) (moved left p3) (moved right p4) (statements_of inside.parse) (past p5 (body_text all)) ∙
+        same = bare-Split (moved whole (behind at (Token.keyword keyword.Split))) (lower_any cut.parse) (moved left p3) (moved right p4) (lower_statements inside.parse) (past p5 (body_text all)) ∙
             ((λ i. statement.Split (bare whole) (cut.same i) (bare left) (bare right) (inside.same i) 0) ∙ sym (bare-Split whole e left right all close));
       }
   print_plain d inner (Plain.return _ value _) w at =
-      let e = optional_of value in
-      let printed = print_optional value (front_written (optional_tokens value) _ w.1) (behind at (Token.keyword keyword.Return)) in
+      let e = lower_optional value in
+      let printed = print_optional value (front_writable (optional_tokens value) _ w.1) (behind at (Token.keyword keyword.Return)) in
       record {
         parse = Plain.return at printed.parse (past (behind at (Token.keyword keyword.Return)) (optional_text e));
         lays = λ d inner. one (Token.keyword keyword.Return) tt (both (optional_text e) printed.lays (one (Token.sign sign.Semicolon) tt none));
         same = ap (λ x. statement.Return 0 x) printed.same;
       }
   print_plain d inner (Plain.print _ _ value _ _) w at =
-      let e = any_of value in
+      let e = lower_any value in
       let inside = behind (behind at (Token.keyword keyword.Print)) (Token.sign sign.ParenOpen) in
-      let printed = print_any value (front_written (any_tokens value) _ w.1.1) inside in
+      let printed = print_any value (front_writable (any_tokens value) _ w.1.1) inside in
       record {
         parse = Plain.print at _ printed.parse _ _;
         lays = λ d inner. one (Token.keyword keyword.Print) tt (one (Token.sign sign.ParenOpen) tt (both (expression_text e) printed.lays
@@ -233,17 +234,17 @@ mutual
     same = refl;
   }
   print_plain d inner (Plain.spawn _ call _) w at =
-      let text = expression_text (expression.Call (invocation_of call)) in
-      let printed = print_call call (front_written (invocation_tokens call) _ w.1) (behind at (Token.keyword keyword.Spawn)) in
+      let text = expression_text (expression.Call (lower_call call)) in
+      let printed = print_call call (front_writable (call_tokens call) _ w.1) (behind at (Token.keyword keyword.Spawn)) in
       record {
         parse = Plain.spawn at printed.parse (past (behind at (Token.keyword keyword.Spawn)) text);
         lays = λ d inner. one (Token.keyword keyword.Spawn) tt (both text printed.lays (one (Token.sign sign.Semicolon) tt none));
         same = ap (λ x. statement.Spawn 0 None x) printed.same;
       }
   print_plain d inner (Plain.spawn_into x _ _ call _) w at =
-      let text = expression_text (expression.Call (invocation_of call)) in
+      let text = expression_text (expression.Call (lower_call call)) in
       let word = behind (behind at (Token.name x.name)) (Token.sign sign.Assign) in
-      let printed = print_call call (front_written (invocation_tokens call) _ w.1.1.1) (behind word (Token.keyword keyword.Spawn)) in
+      let printed = print_call call (front_writable (call_tokens call) _ w.1.1.1) (behind word (Token.keyword keyword.Spawn)) in
       record {
         parse = Plain.spawn_into (moved x at) (behind at (Token.name x.name)) word printed.parse (past (behind word (Token.keyword keyword.Spawn)) text);
         lays = λ d inner. one (Token.name x.name) w.0 (one (Token.sign sign.Assign) tt (one (Token.keyword keyword.Spawn) tt
@@ -251,24 +252,24 @@ mutual
         same = ap (λ c. statement.Spawn 0 (Some (bare x)) c) printed.same;
       }
 
-  print_body : (d : ℕ) (p : Statements) → Written (statements_tokens d p) → (at : ℕ) → PrintedBody at (statements_of p)
+  print_body : (d : ℕ) (p : Statements) → AreWritable (statements_tokens d p) → (at : ℕ) → PrintedBody at (lower_statements p)
   print_body d Statements.none w at = record { parse = Statements.none; lays = λ d. none; same = refl }
   print_body d (Statements.declare declaration _ more) w at =
-      let items = declarators_of declaration.declarators in
+      let items = lower_items declaration.declarators in
       let text = word_token keyword.Int ∷ items_text items in
-      let printed = print_declaration (Quantity.depth d) declaration (front_written (declaration_tokens (Quantity.depth d) declaration) _ w) at in
-      let behind_first = back_written (declaration_tokens (Quantity.depth d) declaration) _ w in
+      let printed = print_declaration (Quantity.depth d) declaration (front_writable (declaration_tokens (Quantity.depth d) declaration) _ w) at in
+      let behind_first = back_writable (declaration_tokens (Quantity.depth d) declaration) _ w in
       let rest = print_body d more behind_first.1 (behind (past at text) (Token.sign sign.Semicolon)) in
       record {
         parse = Statements.declare printed.parse (past at text) rest.parse;
-        lays = λ d. as_text (append_assoc text (sign_token sign.Semicolon ∷ []) (body_text (statements_of more)))
+        lays = λ d. as_text (append_assoc text (sign_token sign.Semicolon ∷ []) (body_text (lower_statements more)))
             (both text (printed.lays (Quantity.depth d)) (one (Token.sign sign.Semicolon) tt (rest.lays d)));
         same = λ i. printed.same i ∷ rest.same i;
       }
   print_body d (Statements.plain first more) w at =
-      let s = plain_of first in
-      let printed = print_plain d (d + 1) first (front_written (plain_tokens d (d + 1) first) _ w) at in
-      let rest = print_body d more (back_written (plain_tokens d (d + 1) first) _ w) (past at (statement_text s)) in
+      let s = lower_plain first in
+      let printed = print_plain d (d + 1) first (front_writable (plain_tokens d (d + 1) first) _ w) at in
+      let rest = print_body d more (back_writable (plain_tokens d (d + 1) first) _ w) (past at (statement_text s)) in
       record {
         parse = Statements.plain printed.parse rest.parse;
         lays = λ d. both (statement_text s) (printed.lays d (d + 1)) (rest.lays d);
@@ -280,9 +281,9 @@ mutual
 record PrintedParameter (at : ℕ) (item : Item Name) : Type 0 where
   parse : Parameter
   lays : Lays at (parameter_tokens parse) (word_token keyword.Int ∷ item_text item)
-  same : bare_item (parameter_of parse) ≡ bare_item item
+  same : bare_item (lower_parameter parse) ≡ bare_item item
 
-print_parameter : (p : Parameter) → Written (parameter_tokens p) → (at : ℕ) → PrintedParameter at (parameter_of p)
+print_parameter : (p : Parameter) → AreWritable (parameter_tokens p) → (at : ℕ) → PrintedParameter at (lower_parameter p)
 print_parameter (Parameter.scalar _ x) w at =
     record { parse = Parameter.scalar at (moved x _); lays = one (Token.keyword keyword.Int) tt (one (Token.name x.name) w.1.0 none); same = refl }
 print_parameter (Parameter.slice _ a _ _) w at = record {
@@ -297,75 +298,75 @@ print_parameter (Parameter.pointer _ _ p) w at = record {
 }
 
 record PrintedSeveral (at : ℕ) (items : List (Item Name)) : Type 0 where
-  parse : Several
-  lays : Lays at (several_tokens parse) (parameters_text items)
-  same : map bare_item (several_of parse) ≡ map bare_item items
+  parse : ParameterList
+  lays : Lays at (parameter_list_tokens parse) (parameters_text items)
+  same : map bare_item (lower_parameter_list parse) ≡ map bare_item items
 
-parameters-more : (first : Item Name) (more : Several) → parameters_text (first ∷ several_of more) ≡
-    (word_token keyword.Int ∷ item_text first) ++ (sign_token sign.Comma ∷ parameters_text (several_of more))
-parameters-more first (Several.last second) = refl
-parameters-more first (Several.before second comma more) = refl
+parameters-more : (first : Item Name) (more : ParameterList) → parameters_text (first ∷ lower_parameter_list more) ≡
+    (word_token keyword.Int ∷ item_text first) ++ (sign_token sign.Comma ∷ parameters_text (lower_parameter_list more))
+parameters-more first (ParameterList.last second) = refl
+parameters-more first (ParameterList.before second comma more) = refl
 
-print_several : (p : Several) → Written (several_tokens p) → (at : ℕ) → PrintedSeveral at (several_of p)
-print_several (Several.last parameter) w at =
+print_several : (p : ParameterList) → AreWritable (parameter_list_tokens p) → (at : ℕ) → PrintedSeveral at (lower_parameter_list p)
+print_several (ParameterList.last parameter) w at =
     let printed = print_parameter parameter w at in
-    record { parse = Several.last printed.parse; lays = printed.lays; same = ap (λ x. x ∷ []) printed.same }
-print_several (Several.before parameter _ more) w at =
-    let text = word_token keyword.Int ∷ item_text (parameter_of parameter) in
-    let printed = print_parameter parameter (front_written (parameter_tokens parameter) _ w) at in
-    let behind_first = back_written (parameter_tokens parameter) _ w in
+    record { parse = ParameterList.last printed.parse; lays = printed.lays; same = ap (λ x. x ∷ []) printed.same }
+print_several (ParameterList.before parameter _ more) w at =
+    let text = word_token keyword.Int ∷ item_text (lower_parameter parameter) in
+    let printed = print_parameter parameter (front_writable (parameter_tokens parameter) _ w) at in
+    let behind_first = back_writable (parameter_tokens parameter) _ w in
     let rest = print_several more behind_first.1 (behind (past at text) (Token.sign sign.Comma)) in
     record {
-      parse = Several.before printed.parse (past at text) rest.parse;
-      lays = as_text (parameters-more (parameter_of parameter) more) (both text printed.lays (one (Token.sign sign.Comma) tt rest.lays));
+      parse = ParameterList.before printed.parse (past at text) rest.parse;
+      lays = as_text (parameters-more (lower_parameter parameter) more) (both text printed.lays (one (Token.sign sign.Comma) tt rest.lays));
       same = λ i. printed.same i ∷ rest.same i;
     }
 
 record PrintedParameters (at : ℕ) (items : List (Item Name)) : Type 0 where
   parse : Parameters
   lays : Lays at (parameters_tokens parse) (parameters_text items)
-  same : map bare_item (parameters_of parse) ≡ map bare_item items
+  same : map bare_item (lower_parameters parse) ≡ map bare_item items
 
-print_parameters : (p : Parameters) → Written (parameters_tokens p) → (at : ℕ) → PrintedParameters at (parameters_of p)
+print_parameters : (p : Parameters) → AreWritable (parameters_tokens p) → (at : ℕ) → PrintedParameters at (lower_parameters p)
 print_parameters Parameters.none w at = record { parse = Parameters.none; lays = none; same = refl }
 print_parameters (Parameters.void _) w at = record { parse = Parameters.none; lays = none; same = refl }
-print_parameters (Parameters.several all) w at =
+print_parameters (Parameters.list all) w at =
     let printed = print_several all w at in
-    record { parse = Parameters.several printed.parse; lays = printed.lays; same = printed.same }
+    record { parse = Parameters.list printed.parse; lays = printed.lays; same = printed.same }
 
 -- the word `cilk`, where it stands
 abbrev marking_text : Bool → List Token
 marking_text marked = if marked then word_token keyword.Cilk ∷ [] else []
 
 record PrintedMarking (at : ℕ) (marked : Bool) : Type 0 where
-  parse : Option Place
-  lays : Lays at (marking_tokens parse) (marking_text marked)
+  parse : Option Offset
+  lays : Lays at (cilk_tokens parse) (marking_text marked)
   same : is_some parse ≡ marked
 
-print_marking : (p : Option Place) (at : ℕ) → PrintedMarking at (is_some p)
+print_marking : (p : Option Offset) (at : ℕ) → PrintedMarking at (is_some p)
 print_marking None at = record { parse = None; lays = none; same = refl }
 print_marking (Some _) at = record { parse = Some at; lays = one (Token.keyword keyword.Cilk) tt none; same = refl }
 
 record PrintedFunction (at : ℕ) (f : Function Name) : Type 0 where
-  parse : Definition
-  lays : Lays at (definition_tokens parse) (function_text f)
-  same : bare_function (definition_of parse) ≡ bare_function f
+  parse : grammar.Function
+  lays : Lays at (function_tokens parse) (function_text f)
+  same : bare_function (lower_function parse) ≡ bare_function f
 
-print_function : (p : Definition) → Written (definition_tokens p) → (at : ℕ) → PrintedFunction at (definition_of p)
+print_function : (p : grammar.Function) → AreWritable (function_tokens p) → (at : ℕ) → PrintedFunction at (lower_function p)
 print_function p w at =
     let type_word = if p.gives then keyword.Int else keyword.Void in
-    let items = parameters_of p.parameters in
-    let all = statements_of p.body in
+    let items = lower_parameters p.parameters in
+    let all = lower_statements p.body in
     let marking = print_marking p.cilk_at at in
     let p1 = past at (marking_text (is_some p.cilk_at)) in
-    let w1 = back_written (marking_tokens p.cilk_at) _ w in
+    let w1 = back_writable (cilk_tokens p.cilk_at) _ w in
     let p2 = behind p1 (Token.keyword type_word) in
     let p3 = behind (behind p2 (Token.name p.name.name)) (Token.sign sign.ParenOpen) in
-    let parameters = print_parameters p.parameters (front_written (parameters_tokens p.parameters) _ w1.1.1.1) p3 in
-    let w2 = back_written (parameters_tokens p.parameters) _ w1.1.1.1 in
+    let parameters = print_parameters p.parameters (front_writable (parameters_tokens p.parameters) _ w1.1.1.1) p3 in
+    let w2 = back_writable (parameters_tokens p.parameters) _ w1.1.1.1 in
     let p4 = past p3 (parameters_text items) in
     let p5 = behind (behind p4 (Token.sign sign.ParenClose)) (Token.sign sign.BraceOpen) in
-    let body = print_body 1 p.body (front_written (statements_tokens 1 p.body) _ w2.1.1) p5 in
+    let body = print_body 1 p.body (front_writable (statements_tokens 1 p.body) _ w2.1.1) p5 in
     record {
       parse = record {
         cilk_at = marking.parse;
@@ -386,31 +387,31 @@ print_function p w at =
     }
 
 record PrintedSource (at : ℕ) (functions : List (Function Name)) : Type 0 where
-  parse : Source
-  lays : Lays at (source_tokens parse) (functions_text functions)
-  same : map bare_function (functions_of parse) ≡ map bare_function functions
+  parse : grammar.Program
+  lays : Lays at (program_tokens parse) (functions_text functions)
+  same : map bare_function (lower_program parse) ≡ map bare_function functions
 
-print_source : (p : Source) → Written (source_tokens p) → (at : ℕ) → PrintedSource at (functions_of p)
-print_source (Source.last f) w at =
+print_source : (p : grammar.Program) → AreWritable (program_tokens p) → (at : ℕ) → PrintedSource at (lower_program p)
+print_source (grammar.Program.last f) w at =
     let printed = print_function f w at in
     record {
-      parse = Source.last printed.parse;
-      lays = as_text (append-nil (function_text (definition_of f))) printed.lays;
+      parse = grammar.Program.last printed.parse;
+      lays = as_text (append-nil (function_text (lower_function f))) printed.lays;
       same = ap (λ x. x ∷ []) printed.same;
     }
-print_source (Source.before f more) w at =
-    let text = function_text (definition_of f) in
-    let printed = print_function f (front_written (definition_tokens f) _ w) at in
-    let rest = print_source more (back_written (definition_tokens f) _ w) (past at text) in
+print_source (grammar.Program.before f more) w at =
+    let text = function_text (lower_function f) in
+    let printed = print_function f (front_writable (function_tokens f) _ w) at in
+    let rest = print_source more (back_writable (function_tokens f) _ w) (past at text) in
     record {
-      parse = Source.before printed.parse rest.parse;
+      parse = grammar.Program.before printed.parse rest.parse;
       lays = both text printed.lays rest.lays;
       same = λ i. printed.same i ∷ rest.same i;
     }
 
 -- ---- canonical texts
 
-written_by : (xs : List Counted) → AllWritable (map (λ p. p.token) (placed_of xs)) → Written xs
+written_by : (xs : List CountedToken) → AllWritable (map (λ p. p.token) (located_tokens xs)) → AreWritable xs
 written_by [] h = tt
 written_by (x ∷ xs) h = (h.0, written_by xs h.1)
 
@@ -418,18 +419,18 @@ written_by (x ∷ xs) h = (h.0, written_by xs h.1)
 abbrev ReadsBack : List (Function Name) → Type 0
 ReadsBack functions = (again : Tree) × IsSourceOf (canonical (record { functions = functions; length = 0 })) again × (map bare_function again.functions ≡ map bare_function functions)
 
-source_reads_back : (p : Source) → Written (source_tokens p) → ReadsBack (functions_of p)
+source_reads_back : (p : grammar.Program) → AreWritable (program_tokens p) → ReadsBack (lower_program p)
 source_reads_back p w =
     let printed = print_source p w 0 in
-    let text = functions_text (functions_of p) in
-    let bytes = canonical (record { functions = functions_of p; length = 0 }) in (
-      record { functions = functions_of printed.parse; length = length bytes },
+    let text = functions_text (lower_program p) in
+    let bytes = canonical (record { functions = lower_program p; length = 0 }) in (
+      record { functions = lower_program printed.parse; length = length bytes },
       (laid 0 text, laid_tokens 0 text printed.lays.writable, (printed.parse, printed.lays.places, refl), refl),
       printed.same,
     )
 
-pub canonical_reads_back : (tree : Tree) → IsSoundTree tree → (again : Tree) × IsSourceOf (canonical tree) again × (without_places again ≡ without_places tree)
+pub canonical_reads_back : (tree : Tree) → IsSoundTree tree → (again : Tree) × IsSourceOf (canonical tree) again × (without_offsets again ≡ without_offsets tree)
 canonical_reads_back tree (bytes, (tokens, read, (source, yields, functions), whole), sound) =
-    let written = written_by (source_tokens source) (sound_written bytes source (subst (Tokens 0 bytes) (sym yields) read) sound) in
+    let written = written_by (program_tokens source) (sound_written bytes source (subst (Tokens 0 bytes) (sym yields) read) sound) in
     let (again, is_source, same) = subst ReadsBack functions (source_reads_back source written) in
     (again, is_source, λ i. record { functions = same i; length = 0 })

@@ -1,21 +1,21 @@
--- Syntax is refused at one place at most.
+-- Syntax is refused at one offset at most.
 use Rattle.std.proofs.Common.{◌≡◌, ℕ, ◌<◌, List, [], ◌∷◌, ◌++◌, length, sym, ap, ◌∙◌, subst, arith, inl, inr, append_assoc, length-append}
 use Rattle.std.proofs.lemmas.Bool.{cases_order}
-use Rattle.cm_syntax.specs.Tokens.{Placed}
-use Rattle.cm_syntax.specs.Refusals.{BeginsProgram, IsProgram, StopsAtToken, StopsAtEnd, Syntax}
+use Rattle.cm_syntax.specs.Token.{LocatedToken}
+use Rattle.cm_syntax.specs.Refusal.{BeginsProgram, IsProgram, StopsAtToken, StopsAtEnd, Syntax}
 use Rattle.cm_syntax.proofs.TokenLaws.{shorter_front, equal_fronts, Tokens-one}
 
 -- what begins a program has fronts that do
-pub BeginsProgram-front : (a b : List Placed) → BeginsProgram (a ++ b) → BeginsProgram a
+pub BeginsProgram-front : (a b : List LocatedToken) → BeginsProgram (a ++ b) → BeginsProgram a
 BeginsProgram-front a b h = (b ++ h.0, subst IsProgram (append_assoc a b h.0) h.1)
 
 -- the tokens up to one of them are a front of a longer front
-pub token_in_front : (a b c d : List Placed) (t : Placed) → a ++ t ∷ b ≡ c ++ d → length a < length c → (m : List Placed) × (c ≡ (a ++ t ∷ []) ++ m)
+pub token_in_front : (a b c d : List LocatedToken) (t : LocatedToken) → a ++ t ∷ b ≡ c ++ d → length a < length c → (m : List LocatedToken) × (c ≡ (a ++ t ∷ []) ++ m)
 token_in_front a b c d t e lt =
     let found = shorter_front (a ++ t ∷ []) b c d (append_assoc a (t ∷ []) b ∙ e) (omega (arith, length-append a (t ∷ []))) in
     (found.0, found.1)
 
-stops_before : (bytes : List ℕ) (i : ℕ) (h : StopsAtToken bytes i) (c d : List Placed) → h.before ++ h.token ∷ h.after ≡ c ++ d → length h.before < length c → BeginsProgram c → ⊥
+stops_before : (bytes : List ℕ) (i : ℕ) (h : StopsAtToken bytes i) (c d : List LocatedToken) → h.before ++ h.token ∷ h.after ≡ c ++ d → length h.before < length c → BeginsProgram c → ⊥
 stops_before bytes i h c d e lt begins =
     let found = token_in_front h.before h.after c d h.token e lt in
     h.no_further (BeginsProgram-front (h.before ++ h.token ∷ []) found.0 (subst BeginsProgram found.1 begins))
@@ -27,7 +27,7 @@ two_tokens bytes i j h k =
       | inl eq ↦
           let fronts = equal_fronts h.before (h.token ∷ h.after) k.before (k.token ∷ k.after) same (omega arith) (omega arith) in
           let tokens : h.token ≡ k.token = let tails = fronts.1 in cc in
-          h.place ∙ (ap (λ t. t.at) tokens ∙ sym k.place)
+          h.offset ∙ (ap (λ t. t.at) tokens ∙ sym k.offset)
       | inr either ↦ elim either [
         | inl lt ↦ absurd (stops_before bytes i h k.before (k.token ∷ k.after) same lt k.so_far)
         | inr gt ↦ absurd (stops_before bytes j k h.before (h.token ∷ h.after) (sym same) gt h.so_far)
@@ -44,4 +44,4 @@ pub Syntax-one : (bytes : List ℕ) (i j : ℕ) → Syntax bytes i → Syntax by
 Syntax-one bytes i j (inl h) (inl k) = two_tokens bytes i j h k
 Syntax-one bytes i j (inl h) (inr k) = absurd (token_and_end bytes i j h k)
 Syntax-one bytes i j (inr h) (inl k) = absurd (token_and_end bytes j i k h)
-Syntax-one bytes i j (inr h) (inr k) = h.place ∙ sym k.place
+Syntax-one bytes i j (inr h) (inr k) = h.offset ∙ sym k.offset

@@ -8,9 +8,9 @@ use Rattle.cm_syntax.specs.declared.name.Name.{Name}
 use Rattle.cm_syntax.specs.declared.stmt.Function.{Function}
 use Rattle.cm_syntax.specs.declared.stmt.Tree.{Tree}
 use Rattle.cm_syntax.specs.Frame.{frame_words, rounded_frame, slots_words, body_temporaries}
-use Rattle.cm_syntax.specs.Names.{Use, mention, calls, again, parallel, returns, function_uses, function_slots, outermost, after_items, numbered_body, numbered_from, numbered_definition}
+use Rattle.cm_syntax.specs.Resolution.{Use, mention, call_use, redeclaration, parallel_keyword, return_keyword, function_uses, function_slots, function_scope, declare_items, resolve_body, resolve_functions, resolve_function}
 use Rattle.cm_syntax.specs.Text.{is_same}
-use Rattle.cm_syntax.specs.Faults.{Variant, twice, kind, frame, count, most_frame_words, most_functions, most_parameter_words, parameter_slots, is_wrong_main, fault_where, use_faults, is_faulty_mention, temporaries_of, frame_of, function_faults, functions_faults, faults, program_of, IsSoundFunction}
+use Rattle.cm_syntax.specs.Fault.{Variant, twice, kind, frame, count, max_frame_words, max_functions, max_parameter_words, parameter_slots, is_wrong_main, fault_where, use_faults, is_faulty_mention, temporaries_of, frame_of, function_faults, functions_faults, faults, program_of, IsSoundFunction}
 
 nothing_first : {A : Type 0} (a b : List A) → a ++ b ≡ [] → a ≡ []
 nothing_first [] b e = refl
@@ -28,10 +28,10 @@ module _ (functions : List (Function Name)) where
   -- where no use is faulty no mention is
   no_faulty_use : (f : Function Name) (use_ : Use) → use_faults functions f use_ ≡ [] → is_faulty_mention functions f use_ ≡ false
   no_faulty_use f (mention x role v) e = ap (λ found. not (length found == 0)) e
-  no_faulty_use f (calls g arguments wanted) e = ap (λ found. not (length found == 0)) e
-  no_faulty_use f (again at) e = refl
-  no_faulty_use f (parallel at) e = refl
-  no_faulty_use f (returns at has_value) e = refl
+  no_faulty_use f (call_use g arguments wanted) e = ap (λ found. not (length found == 0)) e
+  no_faulty_use f (redeclaration at) e = refl
+  no_faulty_use f (parallel_keyword at) e = refl
+  no_faulty_use f (return_keyword at has_value) e = refl
 
   no_faulty_uses : (f : Function Name) (uses : List Use) → flat_map (use_faults functions f) uses ≡ [] → list_any (is_faulty_mention functions f) uses ≡ false
   no_faulty_uses f [] e = refl
@@ -42,15 +42,15 @@ module _ (functions : List (Function Name)) where
 
   -- of a function without faults: its frame isn't too great, and no use is faulty
   record Clean (f : Function Name) : Type 0 where
-    few : nat_lt most_frame_words (frame_of functions f) ≡ false
+    few : nat_lt max_frame_words (frame_of functions f) ≡ false
     uses : flat_map (use_faults functions f) (function_uses f) ≡ []
 
   clean : (before : List (Function Name)) (index : ℕ) (f : Function Name) → function_faults functions before index f ≡ [] → Clean f
   clean before index f e =
       let doubled = fault_where (list_any (λ g. is_same g.name.name f.name.name) before) f.name.at twice in
       let misused = fault_where (is_wrong_main functions f) f.name.at kind in
-      let great = fault_where (nat_lt most_frame_words (frame_of functions f)) f.name.at frame in
-      let many = fault_where (index == most_functions || nat_lt most_parameter_words (slots_words (parameter_slots f))) f.name.at count in
+      let great = fault_where (nat_lt max_frame_words (frame_of functions f)) f.name.at frame in
+      let many = fault_where (index == max_functions || nat_lt max_parameter_words (slots_words (parameter_slots f))) f.name.at count in
       let uses = flat_map (use_faults functions f) (function_uses f) in
       let behind_main = nothing_second misused (great ++ (many ++ uses)) (nothing_second doubled (misused ++ (great ++ (many ++ uses))) e) in
       record {
@@ -60,15 +60,15 @@ module _ (functions : List (Function Name)) where
 
   -- so its frame is that of its numbered body
   frame_same : (before : List (Function Name)) (index : ℕ) (f : Function Name) → function_faults functions before index f ≡ [] →
-      frame_of functions f ≡ frame_words (numbered_definition functions index f)
+      frame_of functions f ≡ frame_words (resolve_function functions index f)
   frame_same before index f e =
       let sound : list_any (is_faulty_mention functions f) (function_uses f) ≡ false = no_faulty_uses f (function_uses f) (clean before index f e).uses in
-      let numbered : temporaries_of functions f ≡ body_temporaries (numbered_body functions (after_items outermost f.parameters) f.body) =
-      ap (λ t. if t then body_temporaries f.body else body_temporaries (numbered_body functions (after_items outermost f.parameters) f.body)) sound in
-      ap (rounded_frame (slots_words (function_slots f))) numbered
+      let resolve_mark : temporaries_of functions f ≡ body_temporaries (resolve_body functions (declare_items function_scope f.parameters) f.body) =
+      ap (λ t. if t then body_temporaries f.body else body_temporaries (resolve_body functions (declare_items function_scope f.parameters) f.body)) sound in
+      ap (rounded_frame (slots_words (function_slots f))) resolve_mark
 
   frames_same : (before : List (Function Name)) (index : ℕ) (fs : List (Function Name)) → functions_faults functions before index fs ≡ [] →
-      map (frame_of functions) fs ≡ map frame_words (numbered_from functions index fs)
+      map (frame_of functions) fs ≡ map frame_words (resolve_functions functions index fs)
   frames_same before index [] e = refl
   frames_same before index (f ∷ more) e =
       let same = frame_same before index f (nothing_first _ _ e) in
@@ -76,23 +76,23 @@ module _ (functions : List (Function Name)) where
       λ i. same i ∷ others i
 
   frame_numbered : (before : List (Function Name)) (index : ℕ) (f : Function Name) → function_faults functions before index f ≡ [] →
-      frame_words (numbered_definition functions index f) ≤ 32768
+      frame_words (resolve_function functions index f) ≤ 32768
   frame_numbered before index f e =
-      subst (λ n. n ≤ 32768) (frame_same before index f e) (ltb-false most_frame_words (frame_of functions f) (clean before index f e).few)
+      subst (λ n. n ≤ 32768) (frame_same before index f e) (ltb-false max_frame_words (frame_of functions f) (clean before index f e).few)
 
   frames_numbered : (before : List (Function Name)) (index : ℕ) (fs : List (Function Name)) → functions_faults functions before index fs ≡ [] →
-      All (λ g. frame_words g ≤ 32768) (numbered_from functions index fs)
+      All (λ g. frame_words g ≤ 32768) (resolve_functions functions index fs)
   frames_numbered before index [] e = All-nil (λ g. frame_words g ≤ 32768)
   frames_numbered before index (f ∷ more) e =
-      All-cons (λ g. frame_words g ≤ 32768) (numbered_definition functions index f) (numbered_from functions (index + 1) more)
+      All-cons (λ g. frame_words g ≤ 32768) (resolve_function functions index f) (resolve_functions functions (index + 1) more)
       (frame_numbered before index f (nothing_first _ _ e)) (frames_numbered (before ++ f ∷ []) (index + 1) more (nothing_second _ _ e))
 
 pub sound_frame : (f : Function ℕ) → IsSoundFunction f → frame_words f ≤ 32768
 sound_frame f (program, sound, (k, lt, is)) =
     let tree = sound.0 in
     let all = frames_numbered tree.functions [] 0 tree.functions (nothing_first _ _ sound.2) in
-    let among : slice_index_or (numbered_from tree.functions 0 tree.functions) k f ≡ f = ap (λ p. slice_index_or p.functions k f) (sym sound.3) ∙ is in
-    let within : k < length (numbered_from tree.functions 0 tree.functions) = subst (λ p. k < length p.functions) sound.3 lt in
+    let among : slice_index_or (resolve_functions tree.functions 0 tree.functions) k f ≡ f = ap (λ p. slice_index_or p.functions k f) (sym sound.3) ∙ is in
+    let within : k < length (resolve_functions tree.functions 0 tree.functions) = subst (λ p. k < length p.functions) sound.3 lt in
     subst (λ g. frame_words g ≤ 32768) among (all k f within)
 
 -- in a tree without faults the words that are counted for a fault are those of the frames

@@ -8,7 +8,7 @@ use Rattle.cm_syntax.specs.declared.token.Keyword.TheVariants as word
 use Rattle.cm_syntax.specs.declared.token.Sign.{Sign}
 use Rattle.cm_syntax.specs.declared.token.Sign.TheVariants as sign
 use Rattle.cm_syntax.specs.Text.{is_space, is_letter, is_word_byte, is_same, keyword_text, reserved_words, sign_text}
-use Rattle.cm_syntax.specs.Tokens.{begins, is_reserved}
+use Rattle.cm_syntax.specs.Token.{begins, is_reserved}
 
 -- texts with the same bytes are equal
 pub is_same-equal : (a b : List ℕ) → is_same a b ≡ true → a ≡ b

@@ -36,7 +36,7 @@ abbrev mutual
   statement_size (IfElse test chosen other) = statement_size chosen + statement_size other + 1
   statement_size (WhileLoop test body) = statement_size body + 1
   statement_size (ForLoop first test step body) = statement_size first + statement_size step + statement_size body + 1
-  statement_size (Split' whole place left right _ body close) = row_size body + 2
+  statement_size (Split' whole index left right _ body close) = row_size body + 2
   statement_size (Block' _ body) = row_size body + 2
   statement_size _ = 0
 
@@ -164,14 +164,14 @@ holds-Block s body got is got_is =
       most = omega (arith, ap body_temporaries got_is);
     }
 
-pub holds-Split : (s : Stmt ℕ) (whole : Mark ℕ) (place : Expr ℕ) (left right : Mark ℕ) (body : List (Stmt ℕ)) (close : ℕ)
-    (got : List (Stmt ℕ)) → s ≡ Split whole place left right body close → got ≡ body → Holds s (temporaries place 0) got
-holds-Split s whole place left right body close got is got_is =
-    let row = row_of (Split whole place left right body close) in
+pub holds-Split : (s : Stmt ℕ) (whole : Mark ℕ) (index : Expr ℕ) (left right : Mark ℕ) (body : List (Stmt ℕ)) (close : ℕ)
+    (got : List (Stmt ℕ)) → s ≡ Split whole index left right body close → got ≡ body → Holds s (temporaries index 0) got
+holds-Split s whole index left right body close got is got_is =
+    let row = row_of (Split whole index left right body close) in
     let same = items_hidden-the_row-Stmt-1 ℕ body in
     let most : statements_temporaries row.1 ≡ body_temporaries body = row_most row.0 row.1 ∙ ap body_temporaries same in
     let size : row_size row.1 ≡ body_size body = row_sizes row.0 row.1 ∙ ap body_size same in
-    let whole_is : statement_temporaries s ≡ max (temporaries place 0) (statements_temporaries row.1) = ap statement_temporaries is in
+    let whole_is : statement_temporaries s ≡ max (temporaries index 0) (statements_temporaries row.1) = ap statement_temporaries is in
     let sizes : statement_size s ≡ row_size row.1 + 2 = ap statement_size is in
     record {
       smaller = omega (arith, ap body_size got_is);

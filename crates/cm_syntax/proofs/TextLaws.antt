@@ -1,4 +1,4 @@
--- The canonical text of each expression and statement as it is made from its parts, and the tree without its places.
+-- The canonical text of each expression and statement as it is made from its parts, and the tree without its offsets.
 use Rattle.std.proofs.Common.{◌≡◌, ℕ, zero, suc, ◌+◌, List, [], ◌∷◌, ◌++◌, refl, ap, ◌∙◌, Option, None, Some}
 use Rattle.std.specs.Prelude.{nat_lt, pos, negsuc, map, option_map}
 use Rattle.cm_syntax.specs.declared.name.Name.{Name}
@@ -14,18 +14,18 @@ use Rattle.cm_syntax.specs.declared.stmt.Target.TheVariants as target
 use Rattle.cm_syntax.specs.declared.stmt.Stmt.{Stmt, Row_of-Stmt, end_of-Stmt, more_of-Stmt, items-the_row-Stmt, items_hidden-the_row-Stmt-1}
 use Rattle.cm_syntax.specs.declared.stmt.Stmt.TheVariants as statement
 use Rattle.cm_syntax.specs.Shape.{Joined, Prefixed, Element, InputAt, Binary-Joined, Unary-Prefixed, Index-Element, Input-InputAt}
-use Rattle.cm_syntax.specs.Tokens.{Token}
-use Rattle.cm_syntax.specs.Trees.{level_of}
-use Rattle.cm_syntax.specs.Yields.{sign_of}
-use Rattle.cm_syntax.specs.Canonical.{word_token, sign_token, name_token, own_level, enclosed, expression_text, arguments_text, argument_text, optional_text, simple_text, tested_text, statement_text, statements_text, body_text, target_text}
-use Rattle.cm_syntax.specs.Places.{bare, bare_expression, bare_row, bare_argument, bare_call, bare_statement, bare_statements}
+use Rattle.cm_syntax.specs.Token.{Token}
+use Rattle.cm_syntax.specs.ParseTree.{level_of}
+use Rattle.cm_syntax.specs.Yield.{sign_of}
+use Rattle.cm_syntax.specs.Canonical.{word_token, sign_token, name_token, own_level, parenthesize, expression_text, arguments_text, argument_text, optional_text, simple_text, condition_text, statement_text, statements_text, body_text, target_text}
+use Rattle.cm_syntax.specs.Offset.{bare, bare_expression, bare_row, bare_argument, bare_call, bare_statement, bare_statements}
 use Rattle.cm_syntax.proofs.StatementLaws.{If-Alone, If-Else, While-Loop, For-Loop}
 
 -- ---- expressions
 
 pub text-Binary : (op : Op) (left right : Expr Name) → expression_text (expression.Binary op left right) ≡
-    enclosed (nat_lt (own_level left) (level_of op)) (expression_text left) ++
-    (sign_token (sign_of op) ∷ enclosed (nat_lt (own_level right) (level_of op + 1)) (expression_text right))
+    parenthesize (nat_lt (own_level left) (level_of op)) (expression_text left) ++
+    (sign_token (sign_of op) ∷ parenthesize (nat_lt (own_level right) (level_of op + 1)) (expression_text right))
 text-Binary op left right = ap expression_text (Binary-Joined op left right)
 
 pub level-Binary : (op : Op) (left right : Expr Name) → own_level (expression.Binary op left right) ≡ level_of op
@@ -36,7 +36,7 @@ pub bare-Binary : (op : Op) (left right : Expr Name) →
 bare-Binary op left right = ap bare_expression (Binary-Joined op left right)
 
 pub text-Unary : (op : Op) (operand : Expr Name) → expression_text (expression.Unary op operand) ≡
-    sign_token (sign_of op) ∷ enclosed (nat_lt (own_level operand) (level_of op)) (expression_text operand)
+    sign_token (sign_of op) ∷ parenthesize (nat_lt (own_level operand) (level_of op)) (expression_text operand)
 text-Unary op operand = ap expression_text (Unary-Prefixed op operand)
 
 pub level-Unary : (op : Op) (operand : Expr Name) → own_level (expression.Unary op operand) ≡ level_of op
@@ -45,32 +45,32 @@ level-Unary op operand = ap own_level (Unary-Prefixed op operand)
 pub bare-Unary : (op : Op) (operand : Expr Name) → bare_expression (expression.Unary op operand) ≡ expression.Unary op (bare_expression operand)
 bare-Unary op operand = ap bare_expression (Unary-Prefixed op operand)
 
-pub bare-Index : (a : Mark Name) (place : Expr Name) → bare_expression (expression.Index a place) ≡ expression.Index (bare a) (bare_expression place)
-bare-Index a place = ap bare_expression (Index-Element a place)
+pub bare-Index : (a : Mark Name) (index : Expr Name) → bare_expression (expression.Index a index) ≡ expression.Index (bare a) (bare_expression index)
+bare-Index a index = ap bare_expression (Index-Element a index)
 
-pub text-Input : (place : Expr Name) → expression_text (expression.Input place) ≡
-    word_token keyword.Input ∷ sign_token sign.ParenOpen ∷ (expression_text place ++ sign_token sign.ParenClose ∷ [])
-text-Input place = ap expression_text (Input-InputAt place)
+pub text-Input : (index : Expr Name) → expression_text (expression.Input index) ≡
+    word_token keyword.Input ∷ sign_token sign.ParenOpen ∷ (expression_text index ++ sign_token sign.ParenClose ∷ [])
+text-Input index = ap expression_text (Input-InputAt index)
 
-pub bare-Input : (place : Expr Name) → bare_expression (expression.Input place) ≡ expression.Input (bare_expression place)
-bare-Input place = ap bare_expression (Input-InputAt place)
+pub bare-Input : (index : Expr Name) → bare_expression (expression.Input index) ≡ expression.Input (bare_expression index)
+bare-Input index = ap bare_expression (Input-InputAt index)
 
 -- An index is the literal 0, and printed with a star, or it is printed between brackets.
-pub data IndexText (place : Expr Name) : Type 0 where
-  starred : place ≡ expression.Number (pos zero) → IndexText place
-  bracketed : ((a : Mark Name) → expression_text (Element a place) ≡
-      name_token a ∷ sign_token sign.BracketOpen ∷ (expression_text place ++ sign_token sign.BracketClose ∷ [])) →
-      ((a : Mark Name) → target_text (target.Index a place) ≡
-      name_token a ∷ sign_token sign.BracketOpen ∷ (expression_text place ++ sign_token sign.BracketClose ∷ [])) → IndexText place
+pub data IndexText (index : Expr Name) : Type 0 where
+  starred : index ≡ expression.Number (pos zero) → IndexText index
+  bracketed : ((a : Mark Name) → expression_text (Element a index) ≡
+      name_token a ∷ sign_token sign.BracketOpen ∷ (expression_text index ++ sign_token sign.BracketClose ∷ [])) →
+      ((a : Mark Name) → target_text (target.Index a index) ≡
+      name_token a ∷ sign_token sign.BracketOpen ∷ (expression_text index ++ sign_token sign.BracketClose ∷ [])) → IndexText index
 
-pub index_text : (place : Expr Name) → IndexText place
+pub index_text : (index : Expr Name) → IndexText index
 index_text (expression.Number (pos zero)) = starred refl
 index_text (expression.Number (pos (suc n))) = bracketed (λ a. refl) (λ a. refl)
 index_text (expression.Number (negsuc n)) = bracketed (λ a. refl) (λ a. refl)
 index_text (expression.Scalar x) = bracketed (λ a. refl) (λ a. refl)
-index_text (Element a place) = bracketed (λ a. refl) (λ a. refl)
+index_text (Element a index) = bracketed (λ a. refl) (λ a. refl)
 index_text (expression.Len a) = bracketed (λ a. refl) (λ a. refl)
-index_text (InputAt place) = bracketed (λ a. refl) (λ a. refl)
+index_text (InputAt index) = bracketed (λ a. refl) (λ a. refl)
 index_text expression.Inputs = bracketed (λ a. refl) (λ a. refl)
 index_text (Prefixed op operand) = bracketed (λ a. refl) (λ a. refl)
 index_text (Joined op left right) = bracketed (λ a. refl) (λ a. refl)
@@ -112,7 +112,7 @@ bare-Call call =
 
 -- ---- statements
 
-pub text-If : (test : Expr Name) (chosen : Stmt Name) → statement_text (statement.If test chosen None) ≡ tested_text keyword.If test ++ statement_text chosen
+pub text-If : (test : Expr Name) (chosen : Stmt Name) → statement_text (statement.If test chosen None) ≡ condition_text keyword.If test ++ statement_text chosen
 text-If test chosen = ap statement_text (If-Alone test chosen)
 
 pub bare-If : (test : Expr Name) (chosen : Stmt Name) →
@@ -120,14 +120,14 @@ pub bare-If : (test : Expr Name) (chosen : Stmt Name) →
 bare-If test chosen = ap bare_statement (If-Alone test chosen)
 
 pub text-Else : (test : Expr Name) (chosen other : Stmt Name) → statement_text (statement.If test chosen (Some other)) ≡
-    tested_text keyword.If test ++ (statement_text chosen ++ (word_token keyword.Else ∷ statement_text other))
+    condition_text keyword.If test ++ (statement_text chosen ++ (word_token keyword.Else ∷ statement_text other))
 text-Else test chosen other = ap statement_text (If-Else test chosen other)
 
 pub bare-Else : (test : Expr Name) (chosen other : Stmt Name) →
     bare_statement (statement.If test chosen (Some other)) ≡ statement.If (bare_expression test) (bare_statement chosen) (Some (bare_statement other))
 bare-Else test chosen other = ap bare_statement (If-Else test chosen other)
 
-pub text-While : (test : Expr Name) (body : Stmt Name) → statement_text (statement.While test body) ≡ tested_text keyword.While test ++ statement_text body
+pub text-While : (test : Expr Name) (body : Stmt Name) → statement_text (statement.While test body) ≡ condition_text keyword.While test ++ statement_text body
 text-While test body = ap statement_text (While-Loop test body)
 
 pub bare-While : (test : Expr Name) (body : Stmt Name) →
@@ -171,20 +171,20 @@ bare-Block body =
     let same = block_bare row.0 row.1 ∙ ap (λ (x : List (Stmt Name)). map bare_statement x) (items_hidden-the_row-Stmt-1 Name body) in
     ap statement.Block same
 
-pub text-Split : (whole : Mark Name) (place : Expr Name) (left right : Mark Name) (body : List (Stmt Name)) (close : ℕ) →
-    statement_text (statement.Split whole place left right body close) ≡
-    word_token keyword.Split ∷ name_token whole ∷ word_token keyword.At ∷ (expression_text place ++ (word_token keyword.As ∷ name_token left ∷ sign_token sign.Comma ∷ name_token right ∷
+pub text-Split : (whole : Mark Name) (index : Expr Name) (left right : Mark Name) (body : List (Stmt Name)) (close : ℕ) →
+    statement_text (statement.Split whole index left right body close) ≡
+    word_token keyword.Split ∷ name_token whole ∷ word_token keyword.At ∷ (expression_text index ++ (word_token keyword.As ∷ name_token left ∷ sign_token sign.Comma ∷ name_token right ∷
     sign_token sign.BraceOpen ∷ (body_text body ++ sign_token sign.BraceClose ∷ [])))
-text-Split whole place left right body close =
-    let row = row_of_block (statement.Split whole place left right body close) in
+text-Split whole index left right body close =
+    let row = row_of_block (statement.Split whole index left right body close) in
     let same = block_text row.0 row.1 ∙ ap body_text (items_hidden-the_row-Stmt-1 Name body) in
-    ap (λ t. word_token keyword.Split ∷ name_token whole ∷ word_token keyword.At ∷ (expression_text place ++ (word_token keyword.As ∷ name_token left ∷ sign_token sign.Comma ∷ name_token right ∷
+    ap (λ t. word_token keyword.Split ∷ name_token whole ∷ word_token keyword.At ∷ (expression_text index ++ (word_token keyword.As ∷ name_token left ∷ sign_token sign.Comma ∷ name_token right ∷
     sign_token sign.BraceOpen ∷ (t ++ sign_token sign.BraceClose ∷ [])))) same
 
-pub bare-Split : (whole : Mark Name) (place : Expr Name) (left right : Mark Name) (body : List (Stmt Name)) (close : ℕ) →
-    bare_statement (statement.Split whole place left right body close) ≡
-    statement.Split (bare whole) (bare_expression place) (bare left) (bare right) (map bare_statement body) 0
-bare-Split whole place left right body close =
-    let row = row_of_block (statement.Split whole place left right body close) in
+pub bare-Split : (whole : Mark Name) (index : Expr Name) (left right : Mark Name) (body : List (Stmt Name)) (close : ℕ) →
+    bare_statement (statement.Split whole index left right body close) ≡
+    statement.Split (bare whole) (bare_expression index) (bare left) (bare right) (map bare_statement body) 0
+bare-Split whole index left right body close =
+    let row = row_of_block (statement.Split whole index left right body close) in
     let same = block_bare row.0 row.1 ∙ ap (λ (x : List (Stmt Name)). map bare_statement x) (items_hidden-the_row-Stmt-1 Name body) in
-    ap (λ t. statement.Split (bare whole) (bare_expression place) (bare left) (bare right) t 0) same
+    ap (λ t. statement.Split (bare whole) (bare_expression index) (bare left) (bare right) t 0) same

@@ -1,4 +1,4 @@
--- A text has one token list at most: at each place one rule applies, in one way.
+-- A text has one token list at most: at each offset one rule applies, in one way.
 use Rattle.std.proofs.Common.{◌≡◌, ℕ, ◌+◌, ◌<◌, ◌≤◌, true, false, ◌||◌, List, [], ◌∷◌, ◌++◌, length, get_or, refl, sym, ap, ◌∙◌, subst, arith, ◌⊎◌, inl, inr, not, append_assoc, append-nil, length-append}
 use Rattle.std.specs.Prelude.{◌==◌, codes}
 use Rattle.std.specs.List.{list_all}
@@ -8,7 +8,7 @@ use Rattle.std.proofs.lemmas.Bool.Decides.{nat_tests}
 use Rattle.cm_syntax.specs.declared.token.Keyword.{Keyword}
 use Rattle.cm_syntax.specs.declared.token.Sign.{Sign}
 use Rattle.cm_syntax.specs.Text.{is_space, is_letter, is_word_byte, keyword_text, sign_text}
-use Rattle.cm_syntax.specs.Tokens.{Token, Placed, DoesNotBegin, begins, is_reserved, Spells, IsComment, OpensComment, IsFirstToken, IsFaulty, Tokens}
+use Rattle.cm_syntax.specs.Token.{Token, LocatedToken, DoesNotBegin, begins, is_reserved, Spells, IsComment, OpensComment, IsFirstToken, IsFaulty, Tokens}
 use Rattle.cm_syntax.proofs.Spelling.{keyword_text-injective, keyword_begins, keyword_bytes, keyword_free, sign_text-injective, sign_begins, sign_black, sign_short, reserved_begins, reserved_bytes}
 
 -- ---- bytes
@@ -227,14 +227,14 @@ stands_black byte bytes t text rest h = first text h.parts (token_some t text h.
 -- ---- one list
 
 module _ {at : ℕ} where
-  after_end : {others : List Placed} → Tokens at [] others → [] ≡ others
+  after_end : {others : List LocatedToken} → Tokens at [] others → [] ≡ others
   after_end Tokens.end = refl
   after_end (Tokens.comment {text = text} {rest = rest} parts h more) = absurd (opening_some (comment_opens [] text rest parts h))
   after_end (Tokens.token {token = t} {text = text} {rest = rest} h more) = absurd (stands_some t text rest h)
   after_end (Tokens.fault h) = absurd (h.some refl)
 
-  after_space : {byte : ℕ} {bytes : List ℕ} {tokens others : List Placed} → is_space byte ≡ true →
-      ((rest : List Placed) → Tokens (at + 1) bytes rest → tokens ≡ rest) → Tokens at (byte ∷ bytes) others → tokens ≡ others
+  after_space : {byte : ℕ} {bytes : List ℕ} {tokens others : List LocatedToken} → is_space byte ≡ true →
+      ((rest : List LocatedToken) → Tokens (at + 1) bytes rest → tokens ≡ rest) → Tokens at (byte ∷ bytes) others → tokens ≡ others
   after_space white same (Tokens.space w more) = same _ more
   after_space {byte} {bytes} white same (Tokens.comment {text = text} {rest = rest} parts h more) =
       absurd (true≢false (sym white ∙ opening_black byte bytes (comment_opens (byte ∷ bytes) text rest parts h)))
@@ -242,8 +242,8 @@ module _ {at : ℕ} where
       absurd (true≢false (sym white ∙ stands_black byte bytes t text rest h))
   after_space white same (Tokens.fault h) = absurd (true≢false (sym white ∙ h.no_space))
 
-  after_comment : {bytes text rest : List ℕ} {tokens others : List Placed} → bytes ≡ text ++ rest → IsComment text rest →
-      ((more : List Placed) → Tokens (at + length text) rest more → tokens ≡ more) → Tokens at bytes others → tokens ≡ others
+  after_comment : {bytes text rest : List ℕ} {tokens others : List LocatedToken} → bytes ≡ text ++ rest → IsComment text rest →
+      ((more : List LocatedToken) → Tokens (at + length text) rest more → tokens ≡ more) → Tokens at bytes others → tokens ≡ others
   after_comment {text = text} {rest = rest} parts h same Tokens.end = absurd (opening_some (comment_opens [] text rest parts h))
   after_comment {text = text} {rest = rest} parts h same (Tokens.space {byte = byte} {bytes = bytes} white more) =
       absurd (true≢false (sym white ∙ opening_black byte bytes (comment_opens (byte ∷ bytes) text rest parts h)))
@@ -253,8 +253,8 @@ module _ {at : ℕ} where
   after_comment {bytes} {text} {rest} parts h same (Tokens.token stands more) = absurd (stands.no_comment (comment_opens bytes text rest parts h))
   after_comment {text = text} {rest = rest} parts h same (Tokens.fault f) = absurd (f.no_comment text rest parts h)
 
-  after_token : {bytes : List ℕ} (t : Token) {text rest : List ℕ} {tokens others : List Placed} → IsFirstToken bytes t text rest →
-      ((more : List Placed) → Tokens (at + length text) rest more → tokens ≡ more) → Tokens at bytes others →
+  after_token : {bytes : List ℕ} (t : Token) {text rest : List ℕ} {tokens others : List LocatedToken} → IsFirstToken bytes t text rest →
+      ((more : List LocatedToken) → Tokens (at + length text) rest more → tokens ≡ more) → Tokens at bytes others →
       record { token = t; at = at } ∷ tokens ≡ others
   after_token t {text} {rest} h same Tokens.end = absurd (stands_some t text rest h)
   after_token t {text} {rest} h same (Tokens.space {byte = byte} {bytes = bytes} white more) =
@@ -267,7 +267,7 @@ module _ {at : ℕ} where
       λ j. record { token = one.0 j; at = at } ∷ tails j
   after_token t {text} {rest} h same (Tokens.fault f) = absurd (f.no_token t text rest h)
 
-  after_fault : {bytes : List ℕ} {others : List Placed} → IsFaulty bytes → Tokens at bytes others →
+  after_fault : {bytes : List ℕ} {others : List LocatedToken} → IsFaulty bytes → Tokens at bytes others →
       record { token = Token.unfit; at = at } ∷ [] ≡ others
   after_fault f Tokens.end = absurd (f.some refl)
   after_fault f (Tokens.space white more) = absurd (true≢false (sym white ∙ f.no_space))
@@ -276,7 +276,7 @@ module _ {at : ℕ} where
   after_fault f (Tokens.fault g) = refl
 
 -- a text has one token list at most
-pub Tokens-one : {at : ℕ} {bytes : List ℕ} {tokens others : List Placed} → Tokens at bytes tokens → Tokens at bytes others → tokens ≡ others
+pub Tokens-one : {at : ℕ} {bytes : List ℕ} {tokens others : List LocatedToken} → Tokens at bytes tokens → Tokens at bytes others → tokens ≡ others
 Tokens-one Tokens.end d = after_end d
 Tokens-one (Tokens.space white more) d = after_space white (λ rest e. Tokens-one more e) d
 Tokens-one (Tokens.comment parts h more) d = after_comment parts h (λ rest e. Tokens-one more e) d

@@ -27,9 +27,9 @@ use Rattle.cm_syntax.specs.declared.stmt.Function.{Function}
 use Rattle.cm_syntax.specs.declared.stmt.Tree.{Tree}
 use Rattle.cm_syntax.specs.Shape.{Joined, Prefixed, Element, InputAt, IfAlone, IfElse, WhileLoop, ForLoop}
 use Rattle.cm_syntax.specs.Text.{keyword_text, sign_text}
-use Rattle.cm_syntax.specs.Tokens.{Token}
-use Rattle.cm_syntax.specs.Trees.{level_of, primary_level}
-use Rattle.cm_syntax.specs.Yields.{sign_of, update_sign}
+use Rattle.cm_syntax.specs.Token.{Token}
+use Rattle.cm_syntax.specs.ParseTree.{level_of, primary_level}
+use Rattle.cm_syntax.specs.Yield.{sign_of, update_sign}
 
 abbrev pub word_token : Keyword → Token
 word_token k = Token.keyword k
@@ -54,24 +54,24 @@ own_level (Joined op left right) = level_of op
 own_level _ = primary_level
 
 -- parentheses where they are needed
-abbrev pub enclosed : Bool → List Token → List Token
-enclosed true tokens = sign_token sign.ParenOpen ∷ (tokens ++ sign_token sign.ParenClose ∷ [])
-enclosed false tokens = tokens
+abbrev pub parenthesize : Bool → List Token → List Token
+parenthesize true tokens = sign_token sign.ParenOpen ∷ (tokens ++ sign_token sign.ParenClose ∷ [])
+parenthesize false tokens = tokens
 
 abbrev mutual
   pub expression_text : Expr Name → List Token
   expression_text (expression.Number value) = literal_token value ∷ []
   expression_text (expression.Scalar x) = name_token x ∷ []
   expression_text (Element p (expression.Number (pos zero))) = sign_token sign.Star ∷ name_token p ∷ []
-  expression_text (Element a place) = name_token a ∷ sign_token sign.BracketOpen ∷ (expression_text place ++ sign_token sign.BracketClose ∷ [])
+  expression_text (Element a index) = name_token a ∷ sign_token sign.BracketOpen ∷ (expression_text index ++ sign_token sign.BracketClose ∷ [])
   expression_text (expression.Len a) = word_token keyword.Len ∷ sign_token sign.ParenOpen ∷ name_token a ∷ sign_token sign.ParenClose ∷ []
-  expression_text (InputAt place) = word_token keyword.Input ∷ sign_token sign.ParenOpen ∷ (expression_text place ++ sign_token sign.ParenClose ∷ [])
+  expression_text (InputAt index) = word_token keyword.Input ∷ sign_token sign.ParenOpen ∷ (expression_text index ++ sign_token sign.ParenClose ∷ [])
   expression_text expression.Inputs = word_token keyword.Inputs ∷ sign_token sign.ParenOpen ∷ sign_token sign.ParenClose ∷ []
   expression_text (Prefixed op operand) =
-      sign_token (sign_of op) ∷ enclosed (nat_lt (own_level operand) (level_of op)) (expression_text operand)
+      sign_token (sign_of op) ∷ parenthesize (nat_lt (own_level operand) (level_of op)) (expression_text operand)
   expression_text (Joined op left right) =
-      enclosed (nat_lt (own_level left) (level_of op)) (expression_text left) ++
-      (sign_token (sign_of op) ∷ enclosed (nat_lt (own_level right) (level_of op + 1)) (expression_text right))
+      parenthesize (nat_lt (own_level left) (level_of op)) (expression_text left) ++
+      (sign_token (sign_of op) ∷ parenthesize (nat_lt (own_level right) (level_of op + 1)) (expression_text right))
   expression_text (expression.Call' f _ arguments) = name_token f ∷ sign_token sign.ParenOpen ∷ (arguments_text arguments ++ sign_token sign.ParenClose ∷ [])
 
   pub arguments_text : {k : _} → Row_of-Arg Name k → List Token
@@ -110,7 +110,7 @@ items_text (first ∷ second ∷ more) = item_text first ++ (sign_token sign.Com
 abbrev pub target_text : Target Name → List Token
 target_text (target.Scalar x) = name_token x ∷ []
 target_text (target.Index p (expression.Number (pos zero))) = sign_token sign.Star ∷ name_token p ∷ []
-target_text (target.Index a place) = name_token a ∷ sign_token sign.BracketOpen ∷ (expression_text place ++ sign_token sign.BracketClose ∷ [])
+target_text (target.Index a index) = name_token a ∷ sign_token sign.BracketOpen ∷ (expression_text index ++ sign_token sign.BracketClose ∷ [])
 
 abbrev pub assign_sign : Option Op → Sign
 assign_sign None = sign.Assign
@@ -131,20 +131,20 @@ simple_text _ = []
 -- ---- statements
 
 -- `if` or `while` and its condition
-abbrev pub tested_text : Keyword → Expr Name → List Token
-tested_text k test = word_token k ∷ sign_token sign.ParenOpen ∷ (expression_text test ++ sign_token sign.ParenClose ∷ [])
+abbrev pub condition_text : Keyword → Expr Name → List Token
+condition_text k test = word_token k ∷ sign_token sign.ParenOpen ∷ (expression_text test ++ sign_token sign.ParenClose ∷ [])
 
 abbrev mutual
   pub statement_text : Stmt Name → List Token
-  statement_text (IfAlone test chosen) = tested_text keyword.If test ++ statement_text chosen
+  statement_text (IfAlone test chosen) = condition_text keyword.If test ++ statement_text chosen
   statement_text (IfElse test chosen other) =
-      tested_text keyword.If test ++ (statement_text chosen ++ (word_token keyword.Else ∷ statement_text other))
-  statement_text (WhileLoop test body) = tested_text keyword.While test ++ statement_text body
+      condition_text keyword.If test ++ (statement_text chosen ++ (word_token keyword.Else ∷ statement_text other))
+  statement_text (WhileLoop test body) = condition_text keyword.While test ++ statement_text body
   statement_text (ForLoop first test step body) =
       word_token keyword.For ∷ sign_token sign.ParenOpen ∷ (simple_text first ++ (sign_token sign.Semicolon ∷ (optional_text test ++ (sign_token sign.Semicolon ∷
       (simple_text step ++ (sign_token sign.ParenClose ∷ statement_text body))))))
-  statement_text (statement.Split' whole place left right _ body close) =
-      word_token keyword.Split ∷ name_token whole ∷ word_token keyword.At ∷ (expression_text place ++ (word_token keyword.As ∷ name_token left ∷ sign_token sign.Comma ∷ name_token right ∷
+  statement_text (statement.Split' whole index left right _ body close) =
+      word_token keyword.Split ∷ name_token whole ∷ word_token keyword.At ∷ (expression_text index ++ (word_token keyword.As ∷ name_token left ∷ sign_token sign.Comma ∷ name_token right ∷
       sign_token sign.BraceOpen ∷ (statements_text body ++ sign_token sign.BraceClose ∷ [])))
   statement_text (statement.Block' _ body) = sign_token sign.BraceOpen ∷ (statements_text body ++ sign_token sign.BraceClose ∷ [])
   statement_text (statement.Spawn at destination call) =

@@ -19,10 +19,10 @@ use Rattle.cm_syntax.specs.declared.stmt.Function.{Function}
 use Rattle.cm_syntax.specs.Shape.{Joined, Prefixed, Element, InputAt, IfAlone, IfElse, WhileLoop, ForLoop}
 
 -- an operator that stops early, so that its left operand isn't kept
-abbrev pub is_short : Op → Bool
-is_short Both = true
-is_short Either = true
-is_short _ = false
+abbrev pub is_short_circuit : Op → Bool
+is_short_circuit Both = true
+is_short_circuit Either = true
+is_short_circuit _ = false
 
 -- the words that an argument takes: a value one, a slice its address and its length
 abbrev pub argument_words : {N : Type 0} → Arg N → ℕ
@@ -42,13 +42,13 @@ abbrev mutual
   pub temporaries : {N : Type 0} → Expr N → (d : ℕ) → ℕ
   temporaries (Number n) d = d
   temporaries (Scalar name) d = d
-  temporaries (Element name place) d = temporaries place d
+  temporaries (Element name index) d = temporaries index d
   temporaries (Len name) d = d
-  temporaries (InputAt place) d = temporaries place d
+  temporaries (InputAt index) d = temporaries index d
   temporaries Inputs d = d
   temporaries (Prefixed op operand) d = temporaries operand d
   temporaries (Joined op left right) d =
-      if is_short op then max (temporaries left d) (temporaries right d)
+      if is_short_circuit op then max (temporaries left d) (temporaries right d)
       else max (temporaries left d) (max (d + 1) (temporaries right (d + 1)))
   temporaries (Call' function _ arguments) d = max (d + arguments_words arguments) (arguments_temporaries arguments d)
 
@@ -77,7 +77,7 @@ items_temporaries (item ∷ more) = max (optional_temporaries item.first) (items
 -- the value of an element begins with the element's address in a temporary
 abbrev pub assignment_temporaries : {N : Type 0} → Target N → Expr N → ℕ
 assignment_temporaries (target.Scalar name) value = temporaries value 0
-assignment_temporaries (target.Index name place) value = max (temporaries place 0) (temporaries value 1)
+assignment_temporaries (target.Index name index) value = max (temporaries index 0) (temporaries value 1)
 
 abbrev mutual
   pub statement_temporaries : {N : Type 0} → Stmt N → ℕ
@@ -93,7 +93,7 @@ abbrev mutual
   statement_temporaries (WhileLoop test body) = max (temporaries test 0) (statement_temporaries body)
   statement_temporaries (ForLoop first test step body) =
       max (statement_temporaries first) (max (optional_temporaries test) (max (statement_temporaries step) (statement_temporaries body)))
-  statement_temporaries (statement.Split' whole place left right _ body close) = max (temporaries place 0) (statements_temporaries body)
+  statement_temporaries (statement.Split' whole index left right _ body close) = max (temporaries index 0) (statements_temporaries body)
   statement_temporaries (statement.Return at value) = optional_temporaries value
   statement_temporaries (statement.Print value) = temporaries value 0
   statement_temporaries (statement.Block' _ body) = statements_temporaries body

@@ -18,11 +18,11 @@ Prefixed op operand = Unary' op tt (more_of-Expr operand end_of-Expr)
 
 -- an element of an array or a slice
 pattern abbrev pub Element : {N : Type 0} → Mark N → Expr N → Expr N
-Element name place = Index' name tt (more_of-Expr place end_of-Expr)
+Element name index = Index' name tt (more_of-Expr index end_of-Expr)
 
 -- a number of the input
 pattern abbrev pub InputAt : {N : Type 0} → Expr N → Expr N
-InputAt place = Input' tt (more_of-Expr place end_of-Expr)
+InputAt index = Input' tt (more_of-Expr index end_of-Expr)
 
 -- an `if` without an `else`
 pattern abbrev pub IfAlone : {N : Type 0} → Expr N → Stmt N → Stmt N
@@ -50,10 +50,10 @@ pub Unary-Prefixed : {N : Type 0} (op : Op) (operand : Expr N) → Unary op oper
 unfolding Rattle.cm_syntax.specs.declared.expr.Arg.TheBlock.shape-the_row-Expr-0 Rattle.cm_syntax.specs.declared.expr.Arg.TheBlock.hidden-the_row-Expr-0 denote.Hole.Carrier.hidden
 Unary-Prefixed op operand = refl
 
-pub Index-Element : {N : Type 0} (name : Mark N) (place : Expr N) → Index name place ≡ Element name place
+pub Index-Element : {N : Type 0} (name : Mark N) (index : Expr N) → Index name index ≡ Element name index
 unfolding Rattle.cm_syntax.specs.declared.expr.Arg.TheBlock.shape-the_row-Expr-0 Rattle.cm_syntax.specs.declared.expr.Arg.TheBlock.hidden-the_row-Expr-0 denote.Hole.Carrier.hidden
-Index-Element name place = refl
+Index-Element name index = refl
 
-pub Input-InputAt : {N : Type 0} (place : Expr N) → Input place ≡ InputAt place
+pub Input-InputAt : {N : Type 0} (index : Expr N) → Input index ≡ InputAt index
 unfolding Rattle.cm_syntax.specs.declared.expr.Arg.TheBlock.shape-the_row-Expr-0 Rattle.cm_syntax.specs.declared.expr.Arg.TheBlock.hidden-the_row-Expr-0 denote.Hole.Carrier.hidden
-Input-InputAt place = refl
+Input-InputAt index = refl

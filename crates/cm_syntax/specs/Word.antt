@@ -10,12 +10,12 @@ abbrev pub IsWord : ℤ → Type 0
 IsWord z = FitsSigned w32 z
 
 -- a whole number brought back into the range of a word, modulo 2^32
-abbrev pub wrapped : ℤ → ℤ
-wrapped z = int_wrap w32 z
+abbrev pub wrap : ℤ → ℤ
+wrap z = int_wrap w32 z
 
 -- what an operator of those that have code today gives of its left and its right operand
-abbrev pub combined : Op → ℤ → ℤ → Option ℤ
-combined Mul left right = Some (wrapped (left *ℤ right))
-combined Add left right = Some (wrapped (left +ℤ right))
-combined Sub left right = Some (wrapped (left -ℤ right))
-combined _ left right = None
+abbrev pub apply_operator : Op → ℤ → ℤ → Option ℤ
+apply_operator Mul left right = Some (wrap (left *ℤ right))
+apply_operator Add left right = Some (wrap (left +ℤ right))
+apply_operator Sub left right = Some (wrap (left -ℤ right))
+apply_operator _ left right = None

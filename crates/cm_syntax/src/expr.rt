@@ -3,7 +3,7 @@
 use cm_text::List;
 use sqlite_items::Boxed;
 
-/// A mention of a name, and the place in the source where it stands.
+/// A mention of a name, and the offset in the source where it stands.
 #[derive(Debug, Drop)]
 pub struct Mark<N> {
     /// The name in a tree, or its number in a resolved program.

@@ -1,7 +1,7 @@
 //! The words of a function's frame: two that are saved, its slots, and its temporaries.
 ghost use Rattle.std.specs.Prelude.{◌≡◌, ◌+◌, ◌*◌, ◌≤◌, if◌then◌else◌};
 ghost use Rattle.cm_syntax.specs.Frame as frame;
-ghost use Rattle.cm_syntax.specs.Faults.{IsSoundFunction};
+ghost use Rattle.cm_syntax.specs.Fault.{IsSoundFunction};
 ghost use Rattle.cm_syntax.specs.declared.expr.Expr.TheVariants as expression;
 
 use crate::expr::{Arg, Call, Expr, Op};
@@ -135,7 +135,7 @@ fn assignment_temporaries(target: &Target<u32>, value: &Expr<u32>) -> u32
 {
     match target {
         Target::Scalar(_) => temporaries(value, 0),
-        Target::Index(_, place) => temporaries(place, 0).max(temporaries(value, 1)),
+        Target::Index(_, index) => temporaries(index, 0).max(temporaries(value, 1)),
     }
 }
 
@@ -160,9 +160,9 @@ fn temporaries(value: &Expr<u32>, depth: u32) -> u32
     match value {
         Expr::Number(_) => depth,
         Expr::Scalar(_) => depth,
-        Expr::Index(_, place) => temporaries(place.get(), depth),
+        Expr::Index(_, index) => temporaries(index.get(), depth),
         Expr::Len(_) => depth,
-        Expr::Input(place) => temporaries(place.get(), depth),
+        Expr::Input(index) => temporaries(index.get(), depth),
         Expr::Inputs => depth,
         Expr::Unary(_, operand) => temporaries(operand.get(), depth),
         Expr::Binary(op, left, right) => {
@@ -177,7 +177,7 @@ fn temporaries(value: &Expr<u32>, depth: u32) -> u32
 /// unless the operator stops early.
 fn right_depth(op: Op, depth: u32) -> u32
     requires { depth ≤ 32768 }
-    ensures { result ≡ if frame.is_short op then depth else depth + 1 }
+    ensures { result ≡ if frame.is_short_circuit op then depth else depth + 1 }
 {
     match op {
         Op::Both | Op::Either => depth,

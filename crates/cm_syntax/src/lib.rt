@@ -6,14 +6,14 @@
 
 mod expr;
 mod frame;
-mod laws;
+mod law;
 mod name;
 mod stmt;
 mod token;
 
 pub use expr::{Arg, Call, Expr, Mark, Op};
 pub use frame::{frame_bytes, frame_words};
-pub use laws::{
+pub use law::{
     canonical_source, faulty_sources, frame_words_agree, frames_of_sources, grammar_members,
     mentions_of_sources, one_answer, one_function_too_many, one_syntax_place, one_token_list,
     one_tree, refused_sources, slots_of_mentions, sound_sources, tokens_of_texts, trees_of_sources,

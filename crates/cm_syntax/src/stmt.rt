@@ -56,7 +56,7 @@ pub enum Stmt<N> {
     Call(Call<N>),
     /// `spawn f(..);` or `x = spawn f(..);`
     Spawn {
-        /// The place of the word `spawn`.
+        /// The offset of the word `spawn`.
         at: u32,
         /// The scalar that takes the value, the destination.
         target: Option<Mark<N>>,
@@ -65,7 +65,7 @@ pub enum Stmt<N> {
     },
     /// `sync;`
     Sync {
-        /// The place of the word.
+        /// The offset of the word.
         at: u32,
     },
     /// `if (test) then` or `if (test) then else other`.
@@ -107,12 +107,12 @@ pub enum Stmt<N> {
         right: Mark<N>,
         /// The block in which the parts are known and the whole isn't.
         body: List<Stmt<N>>,
-        /// The place of the block's closing brace.
+        /// The offset of the block's closing brace.
         close: u32,
     },
     /// `return;` or `return value;`
     Return {
-        /// The place of the word.
+        /// The offset of the word.
         at: u32,
         /// The value that is returned.
         value: Option<Expr<N>>,

@@ -1,0 +1,5 @@
+use Rattle.cm_syntax.proofs.SoundLaws.{frames_agree}
+use Rattle.cm_syntax.proofs.law.frame_words_agree.Goals as goal
+
+pub returns : goal.returns
+returns c = frames_agree

@@ -1,0 +1,5 @@
+use Rattle.cm_syntax.proofs.RefusalLaws.{Syntax-one}
+use Rattle.cm_syntax.proofs.law.one_syntax_place.Goals as goal
+
+pub returns : goal.returns
+returns c = Syntax-one

@@ -1,5 +1,0 @@
-use Rattle.cm_syntax.proofs.ProgramPrinting.{canonical_reads_back}
-use Rattle.cm_syntax.proofs.laws.canonical_source.Goals as goal
-
-pub returns : goal.returns
-returns c = canonical_reads_back

@@ -1,5 +1,0 @@
-use Rattle.cm_syntax.proofs.SoundLaws.{frames_agree}
-use Rattle.cm_syntax.proofs.laws.frame_words_agree.Goals as goal
-
-pub returns : goal.returns
-returns c = frames_agree

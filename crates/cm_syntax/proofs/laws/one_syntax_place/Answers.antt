@@ -1,5 +1,0 @@
-use Rattle.cm_syntax.proofs.RefusalLaws.{Syntax-one}
-use Rattle.cm_syntax.proofs.laws.one_syntax_place.Goals as goal
-
-pub returns : goal.returns
-returns c = Syntax-one

@@ -1,8 +1,0 @@
-use Rattle.cm_syntax.proofs.OneProgram.{Parses-one, IsSourceOf-one}
-use Rattle.cm_syntax.proofs.laws.one_tree.Goals as goal
-
-pub returns-clause-tokens : goal.returns-clause-tokens
-returns-clause-tokens c = Parses-one
-
-pub returns-clause-source : goal.returns-clause-source
-returns-clause-source c = IsSourceOf-one

@@ -1,0 +1,44 @@
+-- What is said of single source texts, so that the definitions can be held against texts worked out by hand.
+use Rattle.std.specs.Prelude.{◌≡◌, ℕ, zero, suc, List, [], ◌∷◌, ◌++◌, map, codes}
+use Rattle.cm_syntax.specs.declared.stmt.Function.{Function}
+use Rattle.cm_syntax.specs.declared.stmt.Stmt.{Stmt}
+use Rattle.cm_syntax.specs.declared.stmt.Tree.{Tree}
+use Rattle.cm_syntax.specs.declared.name.Name.{Name}
+use Rattle.cm_syntax.specs.Grammar.{IsSourceOf}
+use Rattle.cm_syntax.specs.Canonical.{canonical}
+use Rattle.cm_syntax.specs.Refusal.{IsSoundTree}
+use Rattle.cm_syntax.specs.Resolution.{Variable, ResolvesTo}
+use Rattle.cm_syntax.specs.Fault.{Fault, faults, frame_of}
+
+-- the source has a tree of these functions
+abbrev pub HasFunctions : (source : List ℕ) → List (Function Name) → Type 0
+HasFunctions source functions = (tree : Tree) × IsSourceOf source tree × (tree.functions ≡ functions)
+
+-- the source has a tree whose canonical text is this
+abbrev pub IsPrintedAs : (source text : List ℕ) → Type 0
+IsPrintedAs source text = (tree : Tree) × IsSourceOf source tree × (canonical tree ≡ text)
+
+-- the source has a tree with these faults
+abbrev pub HasFaults : (source : List ℕ) → List Fault → Type 0
+HasFaults source all = (tree : Tree) × IsSourceOf source tree × (faults tree ≡ all)
+
+-- the source has a tree whose functions have frames of so many words
+abbrev pub HasFrames : (source : List ℕ) → List ℕ → Type 0
+HasFrames source words = (tree : Tree) × IsSourceOf source tree × (map (frame_of tree.functions) tree.functions ≡ words)
+
+-- the source is one function, and these are the statements of its body
+abbrev pub HasBody : (source : List ℕ) → List (Stmt Name) → Type 0
+HasBody source body = (f : Function Name) × HasFunctions source (f ∷ []) × (f.body ≡ body)
+
+-- the source is one function, the i-th use of which is a mention that stands for the variable of this slot
+abbrev pub ResolvesToSlot : (source : List ℕ) → (i slot : ℕ) → Type 0
+ResolvesToSlot source i slot = (f : Function Name) × (v : Variable) × HasFunctions source (f ∷ []) × (v.slot ≡ slot) × ResolvesTo f i v
+
+-- the source has a sound tree without faults
+abbrev pub IsSoundSource : (source : List ℕ) → Type 0
+IsSoundSource source = (tree : Tree) × IsSourceOf source tree × IsSoundTree tree × (faults tree ≡ [])
+
+-- so many loops, each the body of the one before, and an empty statement
+abbrev pub loops : (n : ℕ) → List ℕ
+loops zero = codes ";"
+loops (suc n) = codes "while(1)" ++ loops n
