@@ -360,7 +360,7 @@ split_whole_row = (
   record { name = codes "a"; slot = 1; kind = slot.Array 3 },
   (tree_of deeper_whole_source 88, (located_tokens (program_tokens deeper_whole_source), tokens_of (codes "int main() { int a[2]; { int a[3]; split a at 1 as l, r { return len(a); } } return 0; }"), (deeper_whole_source, refl, refl), refl), refl),
   refl,
-  (mark (codes "a") 41, Role.parted, refl),
+  (mark (codes "a") 41, Role.split_whole, refl),
 )
 
 pub split_outer_row : ResolvesToSlot (codes "int main() { int a[2]; { int a[3]; split a at 1 as l, r { return len(a); } } return 0; }") 2 0
@@ -370,7 +370,7 @@ split_outer_row = (
   record { name = codes "a"; slot = 0; kind = slot.Array 2 },
   (tree_of deeper_whole_source 88, (located_tokens (program_tokens deeper_whole_source), tokens_of (codes "int main() { int a[2]; { int a[3]; split a at 1 as l, r { return len(a); } } return 0; }"), (deeper_whole_source, refl, refl), refl), refl),
   refl,
-  (mark (codes "a") 69, Role.measured, refl),
+  (mark (codes "a") 69, Role.length_read, refl),
 )
 
 abbrev loop_name_source : grammar.Program
@@ -391,7 +391,7 @@ loop_name_row = (
   record { name = codes "i"; slot = 1; kind = slot.Scalar },
   (tree_of loop_name_source 58, (located_tokens (program_tokens loop_name_source), tokens_of (codes "int main() { int i; for (int i = 0; i < 3; ) ; return i; }"), (loop_name_source, refl, refl), refl), refl),
   refl,
-  (mark (codes "i") 36, Role.valued, refl),
+  (mark (codes "i") 36, Role.value_read, refl),
 )
 
 pub name_behind_loop_row : ResolvesToSlot (codes "int main() { int i; for (int i = 0; i < 3; ) ; return i; }") 2 0
@@ -401,7 +401,7 @@ name_behind_loop_row = (
   record { name = codes "i"; slot = 0; kind = slot.Scalar },
   (tree_of loop_name_source 58, (located_tokens (program_tokens loop_name_source), tokens_of (codes "int main() { int i; for (int i = 0; i < 3; ) ; return i; }"), (loop_name_source, refl, refl), refl), refl),
   refl,
-  (mark (codes "i") 54, Role.valued, refl),
+  (mark (codes "i") 54, Role.value_read, refl),
 )
 
 -- ---- sound sources

@@ -10,7 +10,8 @@ use Rattle.cm_syntax.specs.declared.stmt.Tree.{Tree}
 use Rattle.cm_syntax.specs.Frame.{frame_words, rounded_frame, slots_words, body_temporaries}
 use Rattle.cm_syntax.specs.Resolution.{Use, mention, call_use, redeclaration, parallel_keyword, return_keyword, function_uses, function_slots, function_scope, declare_items, resolve_body, resolve_functions, resolve_function}
 use Rattle.cm_syntax.specs.Text.{is_same}
-use Rattle.cm_syntax.specs.Fault.{Variant, twice, kind, frame, count, max_frame_words, max_functions, max_parameter_words, parameter_slots, is_wrong_main, fault_where, use_faults, is_faulty_mention, temporaries_of, frame_of, function_faults, functions_faults, faults, program_of, IsSoundFunction}
+use Rattle.cm_syntax.specs.Limit.{max_frame_words, max_functions, max_parameter_words}
+use Rattle.cm_syntax.specs.Fault.{Variant, twice, kind, frame, count, parameter_slots, is_wrong_main, fault_where, use_faults, is_faulty_mention, temporaries_of, frame_of, function_faults, functions_faults, faults, program_of, IsSoundFunction}
 
 nothing_first : {A : Type 0} (a b : List A) → a ++ b ≡ [] → a ≡ []
 nothing_first [] b e = refl

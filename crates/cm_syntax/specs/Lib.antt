@@ -1,3 +1,4 @@
+pub mod Limit
 pub mod Word
 pub mod Shape
 pub mod Expr
