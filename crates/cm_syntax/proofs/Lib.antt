@@ -17,6 +17,7 @@ pub mod OneTree
 pub mod OneProgram
 pub mod OneAnswer
 pub mod NameLaws
+pub mod NumberLaws
 pub mod CountLaws
 pub mod Laying
 pub mod TextLaws

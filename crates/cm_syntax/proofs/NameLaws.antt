@@ -43,7 +43,7 @@ get_behind (k ∷ before) kind rest = get_behind before kind rest
 
 -- a statement has as many slots as are counted
 mutual
-  slots_counted : (scope : Scope) (s : Stmt Name) → length (statement_slots scope s) ≡ slot_count s
+  pub slots_counted : (scope : Scope) (s : Stmt Name) → length (statement_slots scope s) ≡ slot_count s
   slots_counted scope (statement.Declare items) = length-map items (λ (item : Item Name). item.slot)
   slots_counted scope (IfAlone test chosen) = slots_counted (inner_scope scope) chosen
   slots_counted scope (IfElse test chosen other) =

@@ -13,5 +13,6 @@ pub mod Refusal
 pub mod Canonical
 pub mod Offset
 pub mod Resolution
+pub mod Number
 pub mod Fault
 pub mod Row

@@ -20,7 +20,9 @@ ghost use Rattle.cm_syntax.specs.Grammar.{IsExpression, IsPrimary, IsArgument, I
 ghost use Rattle.cm_syntax.specs.Refusal.{Syntax, Size, Refusal, IsAnswer, IsSoundTree};
 ghost use Rattle.cm_syntax.specs.Canonical.{canonical};
 ghost use Rattle.cm_syntax.specs.Offset.{without_offsets};
-ghost use Rattle.cm_syntax.specs.Resolution.{Variable, ResolvesTo, function_slots};
+ghost use Rattle.std.specs.List.{range_with_len};
+ghost use Rattle.cm_syntax.specs.Number.{declared_numbers, function_numbers, uses_numbers};
+ghost use Rattle.cm_syntax.specs.Resolution.{function_uses, resolve_function, Variable, ResolvesTo, function_slots};
 ghost use Rattle.cm_syntax.specs.Frame as frame;
 ghost use Rattle.cm_syntax.specs.Fault.{Variant, fault_at, faults, frame_of, program_of, Faulty, IsNameAnswer};
 ghost use Rattle.cm_syntax.specs.Row.{IsPrintedAs, HasBody, HasFaults, HasFrames, ResolvesToSlot, IsSoundSource, loops};
@@ -78,6 +80,15 @@ pub fn one_answer()
 pub fn slots_of_mentions()
     ensures { (f : Function Name) (i : ℕ) (v : Variable) → ResolvesTo f i v
         → slice_get (function_slots f) v.slot ≡ Some v.kind }
+{}
+
+/// In the program of a tree, the numbers of a function's mentions are the slots and the indices that its uses stand
+/// for, in their order, and its own names are numbered from 0 on in the order of the text, one for each slot.
+pub fn numbers_of_names()
+    ensures mentions { (functions : List (Function Name)) (index : ℕ) (f : Function Name)
+        → function_numbers (resolve_function functions index f) ≡ uses_numbers functions (function_uses f) }
+    ensures declarations { (functions : List (Function Name)) (index : ℕ) (f : Function Name)
+        → declared_numbers (resolve_function functions index f) ≡ range_with_len 0 (length (function_slots f)) }
 {}
 
 /// The canonical text of a sound tree is a source text of the same tree, in all but the offsets and the length.
