@@ -24,7 +24,8 @@ ghost use Rattle.std.specs.List.{range_with_len};
 ghost use Rattle.cm_syntax.specs.Number.{declared_numbers, function_numbers, uses_numbers};
 ghost use Rattle.cm_syntax.specs.Resolution.{function_uses, resolve_function, Variable, ResolvesTo, function_slots};
 ghost use Rattle.cm_syntax.specs.Frame as frame;
-ghost use Rattle.cm_syntax.specs.Fault.{Variant, fault_at, faults, frame_of, program_of, Faulty, IsNameAnswer};
+ghost use Rattle.cm_syntax.specs.Fault.{Variant, fault_at, faults, frame_of, program_of, Faulty, IsNameAnswer, IsSoundFunction};
+ghost use Rattle.cm_syntax.specs.Limit.{max_frame_words, max_functions, max_source_bytes};
 ghost use Rattle.cm_syntax.specs.Row.{IsPrintedAs, HasBody, HasFaults, HasFrames, ResolvesToSlot, IsSoundSource, loops};
 
 /// A text has exactly one list of tokens.
@@ -103,6 +104,11 @@ pub fn frame_words_agree()
         → map (frame_of tree.functions) tree.functions ≡ map frame.frame_words (program_of tree).functions }
 {}
 
+/// A function of a sound program has a frame within the limit, so `frame_words` and `frame_bytes` can be called on it.
+pub fn frames_of_sound_programs()
+    ensures { (f : Function ℕ) → IsSoundFunction f → frame.frame_words f ≤ max_frame_words }
+{}
+
 /// The tokens of some texts: the longest token that fits stands, a comment doesn't nest, and a word that is set
 /// aside or a byte that begins no token fits nowhere.
 pub fn tokens_of_texts()
@@ -161,7 +167,7 @@ pub fn refused_sources()
     ensures parentheses { Size (codes "int main() { return " ++ replicate 65 40) 84 }
     ensures operators { Size (codes "int main() { return " ++ replicate 65 126) 84 }
     ensures loops { Size (codes "int main() { " ++ loops 64) 525 }
-    ensures too_long { (bytes : List ℕ) → 65536 < length bytes → Size bytes 65536 }
+    ensures too_long { (bytes : List ℕ) → max_source_bytes < length bytes → Size bytes max_source_bytes }
 {}
 
 /// All faults of some sources.
@@ -216,7 +222,7 @@ pub fn faulty_sources()
 pub fn one_function_too_many()
     ensures { (tree : Tree) (before : List (Function Name)) (f : Function Name)
         (more : List (Function Name)) → tree.functions ≡ before ++ f ∷ more
-        → length before ≡ 256 → Faulty tree f.name.at Variant.count }
+        → length before ≡ max_functions → Faulty tree f.name.at Variant.count }
 {}
 
 /// What some mentions stand for: the slot of a variable by the number of its use in the text.
