@@ -1,5 +1,5 @@
 -- The lemmas that the proofs share.
-pub mod Rows
+pub mod ValueRows
 pub mod FrameLaws
 pub mod StatementLaws
 pub mod Spelling

@@ -1,5 +1,7 @@
 -- What is said of single source texts, so that the definitions can be held against texts worked out by hand.
-use Rattle.std.specs.Prelude.{◌≡◌, ℕ, zero, suc, List, [], ◌∷◌, ◌++◌, map, codes}
+use Rattle.std.specs.Prelude.{◌≡◌, ℕ, pos, zero, suc, List, [], ◌∷◌, ◌++◌, map, codes}
+use Rattle.cm_syntax.specs.declared.expr.Expr.{Expr}
+use Rattle.cm_syntax.specs.declared.expr.Expr.TheVariants.{Number}
 use Rattle.cm_syntax.specs.declared.stmt.Function.{Function}
 use Rattle.cm_syntax.specs.declared.stmt.Stmt.{Stmt}
 use Rattle.cm_syntax.specs.declared.stmt.Tree.{Tree}
@@ -42,3 +44,7 @@ IsSoundSource source = (tree : Tree) × IsSourceOf source tree × IsSoundTree tr
 abbrev pub loops : (n : ℕ) → List ℕ
 loops zero = codes ";"
 loops (suc n) = codes "while(1)" ++ loops n
+
+-- a literal
+abbrev pub literal : ℕ → Expr ℕ
+literal n = Number (pos n)

@@ -1,7 +1,7 @@
 //! Laws of the definitions, and single texts worked out by hand with which they have to agree. The functions do
 //! nothing: their contracts are the laws.
 
-ghost use Rattle.std.specs.Prelude.{◌≡◌, ◌≤◌, ◌<◌, ◌++◌, [], ◌∷◌, ℕ, List, Bool, pos, length, codes, map, replicate, slice_get, Some, None};
+ghost use Rattle.std.specs.Prelude.{◌≡◌, ◌≤◌, ◌<◌, ◌++◌, [], ◌∷◌, ℕ, List, Bool, pos, neg_ℤ, length, codes, map, replicate, slice_get, Some, None};
 ghost use Rattle.cm_syntax.specs.declared.name.Name.{Name};
 ghost use Rattle.cm_syntax.specs.declared.expr.Expr.{Expr};
 ghost use Rattle.cm_syntax.specs.declared.expr.Expr.TheVariants as expression;
@@ -26,7 +26,10 @@ ghost use Rattle.cm_syntax.specs.Resolution.{function_uses, resolve_function, Va
 ghost use Rattle.cm_syntax.specs.Frame as frame;
 ghost use Rattle.cm_syntax.specs.Fault.{Variant, fault_at, faults, frame_of, program_of, Faulty, IsNameAnswer, IsSoundFunction};
 ghost use Rattle.cm_syntax.specs.Limit.{max_frame_words, max_functions, max_source_bytes};
-ghost use Rattle.cm_syntax.specs.Row.{IsPrintedAs, HasBody, HasFaults, HasFrames, ResolvesToSlot, IsSoundSource, loops};
+ghost use Rattle.cm_syntax.specs.declared.expr.Op.TheVariants as operators;
+ghost use Rattle.cm_syntax.specs.Shape.{Joined};
+ghost use Rattle.cm_syntax.specs.Expr.{operator_count, value_of};
+ghost use Rattle.cm_syntax.specs.Row.{literal, IsPrintedAs, HasBody, HasFaults, HasFrames, ResolvesToSlot, IsSoundSource, loops};
 
 /// A text has exactly one list of tokens.
 pub fn one_token_list()
@@ -254,4 +257,17 @@ pub fn sound_sources()
     ensures fourteen { IsSoundSource (codes "int main() { return 14; }") }
     ensures sound_spawn { IsSoundSource
         (codes "cilk int g(int a[]) { return len(a); } cilk int main() { int x, b[3]; x = spawn g(b); sync; return x; }") }
+{}
+
+/// The values of some expressions of literals, and how many temporaries they use: a sum and a product wrap, operators
+/// group to the left, and a right operand has one temporary more in use than a left one.
+pub fn values_of_expressions()
+    ensures sum_wraps { value_of (Joined operators.Add (literal 2147483647) (literal 1)) ≡ Some (neg_ℤ (pos 2147483648)) }
+    ensures product_wraps { value_of (Joined operators.Mul (literal 65536) (literal 65536)) ≡ Some (pos 0) }
+    ensures sum { value_of (Joined operators.Add (literal 2) (Joined operators.Mul (literal 3) (literal 4))) ≡ Some (pos 14) }
+    ensures difference { value_of (Joined operators.Sub (literal 2) (Joined operators.Mul (literal 3) (literal 4))) ≡ Some (neg_ℤ (pos 10)) }
+    ensures left { value_of (Joined operators.Sub (Joined operators.Sub (literal 1) (literal 2)) (literal 3)) ≡ Some (neg_ℤ (pos 4)) }
+    ensures right_temporaries { frame.temporaries (Joined operators.Add (literal 2) (Joined operators.Mul (literal 3) (literal 4))) 0 ≡ 2 }
+    ensures left_temporaries { frame.temporaries (Joined operators.Add (Joined operators.Mul (literal 2) (literal 3)) (literal 4)) 0 ≡ 1 }
+    ensures operators { operator_count (Joined operators.Add (literal 2) (Joined operators.Mul (literal 3) (literal 4))) ≡ 2 }
 {}
