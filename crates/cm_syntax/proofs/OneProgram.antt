@@ -84,15 +84,15 @@ declarator_reads (grammar.Item.scalar x) t s closes = always (λ r. rw (closes.n
 declarator_reads (grammar.Item.set x assign value) t s closes = along (any_reads value t s closes.ends) (λ r e. rw e refl)
 declarator_reads (grammar.Item.array a opening at size closing) t s closes = always (λ r. refl)
 
-declarators_read : (ds : grammar.Items) (at : Offset) (s : List LocatedToken) → Gives (λ r. r.declarators (located_tokens (items_tokens ds) ++ semicolon at ∷ s)) (lower_items ds, semicolon at ∷ s)
-declarators_read (grammar.Items.last one) at s = further_on (λ r. r.declarators _) (along (declarator_reads one (semicolon at) s semicolon_closes) (λ r e. rw e refl))
-declarators_read (grammar.Items.before one comma more) at s = further_on (λ r. r.declarators _)
+declarators_read : (ds : grammar.Items) (at : Offset) (s : List LocatedToken) → Gives (λ r. r.items (located_tokens (items_tokens ds) ++ semicolon at ∷ s)) (lower_items ds, semicolon at ∷ s)
+declarators_read (grammar.Items.last one) at s = further_on (λ r. r.items _) (along (declarator_reads one (semicolon at) s semicolon_closes) (λ r e. rw e refl))
+declarators_read (grammar.Items.before one comma more) at s = further_on (λ r. r.items _)
     (along_two (declarator_reads one (token_at (Token.sign sign.Comma) comma) (located_tokens (items_tokens more) ++ semicolon at ∷ s) comma_closes) (declarators_read more at s)
     (λ r a b. rw (regroup (item_tokens one) (sign_at sign.Comma comma ∷ items_tokens more) (semicolon at ∷ s), a, b) refl))
 
 declaration_reads : (d : Declaration) (first : Quantity) (at : Offset) (s : List LocatedToken) →
     Gives (λ r. declaration_next r (located_tokens (declaration_tokens first d) ++ semicolon at ∷ s)) (lower_declaration d, semicolon at ∷ s)
-declaration_reads d first at s = along (declarators_read d.declarators at s) (λ r e. rw e refl)
+declaration_reads d first at s = along (declarators_read d.items at s) (λ r e. rw e refl)
 
 -- ---- assignments and calls
 
@@ -333,7 +333,7 @@ mutual
   statements_read (Statements.declare declaration second more) d at s =
       let behind = located_tokens (statements_tokens d more) ++ close_brace at ∷ s in
       further_on (λ r. r.statements _) (along_two (declaration_reads declaration (depth d) second behind) (statements_read more d at s)
-      (λ r a b. rw (regroup (items_tokens declaration.declarators) (sign_at sign.Semicolon second ∷ statements_tokens d more) (close_brace at ∷ s), a, b) refl))
+      (λ r a b. rw (regroup (items_tokens declaration.items) (sign_at sign.Semicolon second ∷ statements_tokens d more) (close_brace at ∷ s), a, b) refl))
   statements_read (Statements.plain first more) d at s =
       let behind = located_tokens (statements_tokens d more) ++ close_brace at ∷ s in
       let front = plain_front first d (d + 1) behind in

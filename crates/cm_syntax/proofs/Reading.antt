@@ -113,7 +113,7 @@ pub record Readers : Type 0 where
   -- an expression of at least this level
   pub whole : (level : ℕ) → List LocatedToken → Read (Expr Name)
   pub arguments : List LocatedToken → Read (List (Arg Name))
-  pub declarators : List LocatedToken → Read (List (Item Name))
+  pub items : List LocatedToken → Read (List (Item Name))
   pub plain : List LocatedToken → Read (Stmt Name)
   pub statements : List LocatedToken → Read (List (Stmt Name))
   pub parameters : List LocatedToken → Read (List (Item Name))
@@ -213,12 +213,12 @@ module _ (r : Readers) where
   abbrev pub declarators_next : List LocatedToken → Read (List (Item Name))
   declarators_next tokens = declarator_next tokens >>= λ (first, rest).
       if next_is (is_sign sign.Comma) rest
-      then (wanted (is_sign sign.Comma) rest >>= λ (at, behind). r.declarators behind >>= λ (more, end). Some (first ∷ more, end))
+      then (wanted (is_sign sign.Comma) rest >>= λ (at, behind). r.items behind >>= λ (more, end). Some (first ∷ more, end))
       else Some (first ∷ [], rest)
 
   -- behind the word `int`
   abbrev pub declaration_next : List LocatedToken → Read (Stmt Name)
-  declaration_next tokens = wanted (is_word keyword.Int) tokens >>= λ (at, rest). r.declarators rest >>= λ (items, behind).
+  declaration_next tokens = wanted (is_word keyword.Int) tokens >>= λ (at, rest). r.items rest >>= λ (items, behind).
       Some (statement.Declare items, behind)
 
 -- what a sign behind a target does
@@ -428,7 +428,7 @@ module _ (r : Readers) where
     climb = climb_next r;
     whole = whole_next r;
     arguments = arguments_next r;
-    declarators = declarators_next r;
+    items = declarators_next r;
     plain = plain_next;
     statements = statements_next;
     parameters = several_next;
@@ -441,7 +441,7 @@ readers zero = record {
   climb = λ level left tokens. None;
   whole = λ level tokens. None;
   arguments = λ tokens. None;
-  declarators = λ tokens. None;
+  items = λ tokens. None;
   plain = λ tokens. None;
   statements = λ tokens. None;
   parameters = λ tokens. None;
