@@ -13,7 +13,7 @@ pub use errors::{Failed, Memory};
 pub use in_memory::{MemSink, MemSource};
 pub use lists::{Bytes, List};
 pub use numbers::number;
-pub use real::{RealSink, RealSource};
+pub use real::{ReaderSource, RealSink, RealSource, WriterSink};
 pub use streams::{Sink, Source};
 pub use transfer::{ReadEnd, read_all, write_all};
 
