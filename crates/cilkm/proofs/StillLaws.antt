@@ -1,6 +1,6 @@
 -- From the machine's run to the verdict, and from the verdict to the status.
-use Rattle.std.proofs.Common.{◌≡◌, ℕ, ◌<◌, ◌≤◌, ◌^◌, List, [], ◌∷◌, length, Option, Some, None, refl, sym, ap, ◌∙◌, subst, arith, rules, inl, inr}
-use Rattle.std.specs.Prelude.{ℤ, ◌⊎◌, IfSome, Contains}
+use Rattle.std.proofs.Common.{◌≡◌, ℕ, ◌<◌, ◌≤◌, ◌^◌, List, length, Option, Some, None, refl, sym, ap, ◌∙◌, subst, arith, rules, inl, inr}
+use Rattle.std.specs.Prelude.{ℤ, ◌⊎◌, IfSome}
 use Rattle.cm_text.specs.Counts.{Rose}
 use Rattle.cm_syntax.specs.declared.expr.Expr.{Expr}
 use Rattle.cm_syntax.specs.Expr.{value_of, operator_count, IsClosed}
@@ -14,7 +14,7 @@ use Rattle.cilkm.specs.declared.command.Command.TheVariants.{Serial}
 use Rattle.cilkm.specs.declared.verdict.Refusal.TheVariants.{Syntax}
 use Rattle.cilkm.specs.declared.verdict.Verdict.{Verdict}
 use Rattle.cilkm.specs.declared.verdict.Verdict.TheVariants.{Usage, Read, Long, Refused, Value, Memory}
-use Rattle.cilkm.specs.Verdict.{verdict_status, Means, IsCaused, Says, Tells}
+use Rattle.cilkm.specs.Verdict.{Means, IsCaused, Says, BreaksOff, Tells}
 use Rattle.cilkm.proofs.HartLaws.{stack_start}
 use Rattle.cilkm.proofs.Once.{one_form}
 
@@ -40,20 +40,14 @@ caused_by (Refused place Syntax) bytes (Some all) before now means told = (searc
 caused_by (Value n) bytes None before now means told = (search rules, tt)
 caused_by (Value n) bytes (Some all) before now means told = (search rules, subst (λ b. Means (Some Serial) b (Value n)) told means)
 
--- the statuses that are told
-status_of : (verdict : Verdict) → Contains (0 ∷ 1 ∷ 2 ∷ 5 ∷ 6 ∷ 7 ∷ 8 ∷ []) (verdict_status verdict)
-status_of (Value n) = (0, omega arith, refl)
-status_of (Refused place Syntax) = (1, omega arith, refl)
-status_of Usage = (2, omega arith, refl)
-status_of Read = (3, omega arith, refl)
-status_of Memory = (5, omega arith, refl)
-status_of Long = (6, omega arith, refl)
-
-pub statuses : (verdict : Verdict) (status : ℕ) (old new : Option (List ℕ)) (before now : ℕ) → Tells verdict status old new before now
-    → Contains (0 ∷ 1 ∷ 2 ∷ 5 ∷ 6 ∷ 7 ∷ 8 ∷ []) status
-statuses verdict status old new before now (said, which, inl says) = subst (Contains (0 ∷ 1 ∷ 2 ∷ 5 ∷ 6 ∷ 7 ∷ 8 ∷ [])) (sym says.status_is) (status_of said)
-statuses verdict status old new before now (said, which, inr breaks) =
-    subst (Contains (0 ∷ 1 ∷ 2 ∷ 5 ∷ 6 ∷ 7 ∷ 8 ∷ [])) (sym breaks.status_is) (4, omega arith, refl)
+-- what was said has its cause too, since want of memory needs none
+pub said_with_cause : (verdict : Verdict) (status : ℕ) (command : Option Command) (input old new : Option (List ℕ)) (before now sink_before sink_now : ℕ)
+    → IsCaused command input before now verdict → Tells verdict status old new sink_before sink_now
+    → (said : Verdict) × IsCaused command input before now said × (Says said status old new ⊎ BreaksOff said status old new sink_before sink_now)
+said_with_cause verdict status command input old new before now sink_before sink_now caused (said, inl same, told) =
+    (said, subst (IsCaused command input before now) (sym same) caused, told)
+said_with_cause verdict status command input old new before now sink_before sink_now caused (said, inr memory, told) =
+    (said, subst (IsCaused command input before now) (sym memory) tt, told)
 
 -- ---- a source of the form
 

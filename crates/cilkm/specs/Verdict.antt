@@ -55,9 +55,9 @@ verdict_status (Refused place refusal) = 1
 verdict_status (Value value) = 0
 verdict_status Memory = 7
 
--- ---- what is decided by the words and the input
+-- ---- why it is answered
 
--- the command comes to this, with this standard input
+-- the command, or None for words that are no command, comes to this verdict with this standard input
 abbrev pub Means : Option Command → (input : List ℕ) → Verdict → Type 0
 Means None input Usage = Unit {0}
 Means (Some Serial) input Long = input_limit < length input
@@ -65,8 +65,11 @@ Means (Some Serial) input (Refused place Syntax) = (length input ≤ input_limit
 Means (Some Serial) input (Value value) = (length input ≤ input_limit) × (e : Expr ℕ) × IsFirstForm input e × (value_of e ≡ Some value)
 Means _ input _ = ⊥
 
--- the cause of each verdict: Read comes only where the source's count of faults rose, want of memory is free, and the
--- others are decided by the command and by the standard input, where the source tells it
+-- The cause of each verdict, by standard input, which a source may not tell, and the source's count of faults before and now:
+--   Usage   the words are no command
+--   Read    the words are a command, and the source's count of faults rose
+--   Memory  none is told, since memory may run out at any point
+--   others  the words are a command, and it comes to the verdict with standard input, where the source tells that
 abbrev pub IsCaused : Option Command → (input : Option (List ℕ)) → (before now : ℕ) → Verdict → Type 0
 IsCaused command input before now Usage = command ≡ None
 IsCaused command input before now Read = IsSome command × Rose before now

@@ -2,7 +2,7 @@ use Rattle.std.proofs.Common.{subst, Some}
 use Rattle.cilkm.specs.declared.command.Command.TheVariants.{Serial}
 use Rattle.cilkm.specs.Verdict.{Means}
 use Rattle.cilkm.proofs.StillLaws.{caused_by}
-use Rattle.cilkm.proofs.still.serial.Goals as goal
+use Rattle.cilkm.proofs.still.serial_verdict.Goals as goal
 
 pub returns-clause-cause : goal.returns-clause-cause
 returns-clause-cause g c =

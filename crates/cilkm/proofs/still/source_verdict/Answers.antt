@@ -2,7 +2,7 @@ use Rattle.std.proofs.Common.{Some, sym, ap, ◌∙◌}
 use Rattle.std.specs.Int.{w32}
 use Rattle.std.proofs.lemmas.Int.{to_z-of_z}
 use Rattle.cilkm.proofs.StillLaws.{runs_from_start}
-use Rattle.cilkm.proofs.still.compiled.Goals as goal
+use Rattle.cilkm.proofs.still.source_verdict.Goals as goal
 
 pub run-value-requires : goal.run-value-requires
 run-value-requires c =
