@@ -1,5 +1,5 @@
 -- From the machine's run to the verdict, and from the verdict to the status.
-use Rattle.std.proofs.Common.{◌≡◌, ℕ, ◌<◌, ◌≤◌, ◌^◌, List, length, Option, Some, None, refl, sym, ap, ◌∙◌, subst, arith, rules, inl, inr}
+use Rattle.std.proofs.Common.{◌≡◌, ℕ, ◌<◌, ◌≤◌, ◌^◌, List, length, Option, Some, None, refl, sym, ◌∙◌, subst, arith, rules, inl, inr}
 use Rattle.std.specs.Prelude.{ℤ, ◌⊎◌, IfSome}
 use Rattle.cm_text.specs.Counts.{Rose}
 use Rattle.cm_syntax.specs.declared.expr.Expr.{Expr}
@@ -9,6 +9,7 @@ use Rattle.cm_gen.specs.Run.{Ends, RunsTo}
 use Rattle.cm_gen.proofs.Program.{few_temporaries}
 use Rattle.cilkm.specs.First.{IsFirstForm}
 use Rattle.cilkm.specs.Stack.{start_machine}
+use Rattle.cilkm.specs.Run.{Run, IsRunOf}
 use Rattle.cilkm.specs.declared.command.Command.{Command}
 use Rattle.cilkm.specs.declared.command.Command.TheVariants.{Serial}
 use Rattle.cilkm.specs.declared.verdict.Refusal.TheVariants.{Syntax}
@@ -37,8 +38,8 @@ caused_by Long bytes None before now means told = (search rules, tt)
 caused_by Long bytes (Some all) before now means told = (search rules, subst (λ b. Means (Some Serial) b Long) told means)
 caused_by (Refused place Syntax) bytes None before now means told = (search rules, tt)
 caused_by (Refused place Syntax) bytes (Some all) before now means told = (search rules, subst (λ b. Means (Some Serial) b (Refused place Syntax)) told means)
-caused_by (Value n) bytes None before now means told = (search rules, tt)
-caused_by (Value n) bytes (Some all) before now means told = (search rules, subst (λ b. Means (Some Serial) b (Value n)) told means)
+caused_by (Value run) bytes None before now means told = (search rules, tt)
+caused_by (Value run) bytes (Some all) before now means told = (search rules, subst (λ b. Means (Some Serial) b (Value run)) told means)
 
 -- what was said has its cause too, since want of memory needs none
 pub said_with_cause : (verdict : Verdict) (status : ℕ) (command : Option Command) (input old new : Option (List ℕ)) (before now sink_before sink_now : ℕ)
@@ -54,7 +55,7 @@ said_with_cause verdict status command input old new before now sink_before sink
 module _ (input : List ℕ) (e : Expr ℕ) (form : IsFirstForm input e) where
   -- its verdict is its value, or want of memory, where no read failed
   verdict_is : (verdict : Verdict) (before now : ℕ) → IsCaused (Some Serial) (Some input) before now verdict → (Rose before now → ⊥)
-      → ((value : ℤ) × (value_of e ≡ Some value) × (verdict ≡ Value value)) ⊎ (verdict ≡ Memory)
+      → ((run : Run) × IsRunOf e run × (verdict ≡ Value run)) ⊎ (verdict ≡ Memory)
   verdict_is Usage before now caused calm = absurd (some_none caused)
     where
       some_none : Some Serial ≡ None → ⊥
@@ -62,17 +63,17 @@ module _ (input : List ℕ) (e : Expr ℕ) (form : IsFirstForm input e) where
   verdict_is Read before now caused calm = absurd (calm caused.1)
   verdict_is Long before now caused calm = absurd (omega (arith, caused.1, form.short))
   verdict_is (Refused place Syntax) before now caused calm = absurd (caused.1.2 e form)
-  verdict_is (Value n) before now caused calm =
+  verdict_is (Value run) before now caused calm =
       let found = caused.1 in
       let same = one_form input found.1 e found.2 form in
-      inl (n, ap value_of (sym same) ∙ found.3, refl)
+      inl (run, subst (λ (of : Expr ℕ). IsRunOf of run) same found.3, refl)
   verdict_is Memory before now caused calm = inr refl
 
   -- and it is said, where no write failed
   pub says_value : (verdict : Verdict) (status : ℕ) (old new : Option (List ℕ)) (before now sink_before sink_now : ℕ)
       → IsCaused (Some Serial) (Some input) before now verdict → Tells verdict status old new sink_before sink_now
       → (Rose before now → ⊥) → (Rose sink_before sink_now → ⊥)
-      → ((value : ℤ) × (value_of e ≡ Some value) × Says (Value value) status old new) ⊎ Says Memory status old new
+      → ((run : Run) × IsRunOf e run × Says (Value run) status old new) ⊎ Says Memory status old new
   says_value verdict status old new before now sink_before sink_now caused (said, which, inr breaks) calm still = absurd (still breaks.rose)
   says_value verdict status old new before now sink_before sink_now caused (said, inr memory, inl says) calm still =
       inr (subst (λ (v : Verdict). Says v status old new) memory says)
@@ -86,7 +87,7 @@ module _ (input : List ℕ) (e : Expr ℕ) (form : IsFirstForm input e) where
 pub says_told_value : (input : Option (List ℕ)) (command : Option Command) (verdict : Verdict) (status : ℕ) (old new : Option (List ℕ)) (before now sink_before sink_now : ℕ)
     → command ≡ Some Serial → IsCaused command input before now verdict → Tells verdict status old new sink_before sink_now
     → IfSome input (λ bytes. (e : Expr ℕ) → IsFirstForm bytes e → (Rose before now → ⊥) → (Rose sink_before sink_now → ⊥)
-    → ((value : ℤ) × (value_of e ≡ Some value) × Says (Value value) status old new) ⊎ Says Memory status old new)
+    → ((run : Run) × IsRunOf e run × Says (Value run) status old new) ⊎ Says Memory status old new)
 says_told_value None command verdict status old new before now sink_before sink_now is caused told = tt
 says_told_value (Some bytes) command verdict status old new before now sink_before sink_now is caused told = λ e form calm still.
     says_value bytes e form verdict status old new before now sink_before sink_now (subst (λ c. IsCaused c (Some bytes) before now verdict) is caused) told calm still

@@ -7,8 +7,8 @@ use Rattle.std.specs.Io.KnownBytes.{Appends}
 use Rattle.cm_text.specs.Counts.{Rose}
 use Rattle.cm_text.specs.Transfer.{TookFront}
 use Rattle.cm_syntax.specs.declared.expr.Expr.{Expr}
-use Rattle.cm_syntax.specs.Expr.{value_of}
 use Rattle.cilkm.specs.First.{IsFirstForm}
+use Rattle.cilkm.specs.Run.{IsRunOf}
 use Rattle.cilkm.specs.declared.command.Command.{Command}
 use Rattle.cilkm.specs.declared.command.Command.TheVariants.{Serial}
 use Rattle.cilkm.specs.declared.verdict.Refusal.{Refusal}
@@ -43,7 +43,7 @@ verdict_text Usage = codes "usage\n"
 verdict_text Read = codes "read\n"
 verdict_text Long = codes "long\n"
 verdict_text (Refused place refusal) = codes "refused " ++ (decimal place ++ (codes " " ++ (refusal_word refusal ++ codes "\n")))
-verdict_text (Value value) = codes "value " ++ (signed_decimal value ++ codes "\n")
+verdict_text (Value run) = codes "value " ++ (signed_decimal run.value ++ codes "\n")
 verdict_text Memory = codes "memory\n"
 
 -- the status with which the program ends
@@ -52,7 +52,7 @@ verdict_status Usage = 2
 verdict_status Read = 5
 verdict_status Long = 8
 verdict_status (Refused place refusal) = 1
-verdict_status (Value value) = 0
+verdict_status (Value run) = 0
 verdict_status Memory = 7
 
 -- ---- why it is answered
@@ -62,7 +62,7 @@ abbrev pub Means : Option Command → (input : List ℕ) → Verdict → Type 0
 Means None input Usage = Unit {0}
 Means (Some Serial) input Long = input_limit < length input
 Means (Some Serial) input (Refused place Syntax) = (length input ≤ input_limit) × (place ≡ 0) × ((e : Expr ℕ) → IsFirstForm input e → ⊥)
-Means (Some Serial) input (Value value) = (length input ≤ input_limit) × (e : Expr ℕ) × IsFirstForm input e × (value_of e ≡ Some value)
+Means (Some Serial) input (Value run) = (length input ≤ input_limit) × (e : Expr ℕ) × IsFirstForm input e × IsRunOf e run
 Means _ input _ = ⊥
 
 -- The cause of each verdict, by standard input, which a source may not tell, and the source's count of faults before and now:

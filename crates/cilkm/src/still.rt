@@ -1,10 +1,10 @@
 //! The top call: from the words and standard input to the status and standard output.
-ghost use Rattle.std.specs.Prelude.{◌≡◌, ◌≢◌, ℕ, ℤ, ◌≤◌, ◌⊎◌, Some, IfOk, IfSome, length};
+ghost use Rattle.std.specs.Prelude.{◌≡◌, ◌≢◌, ℕ, ◌≤◌, ◌⊎◌, Some, IfOk, IfSome, length};
 ghost use Rattle.std.specs.IoError.{error_kind};
 ghost use Rattle.cm_text.specs.Counts.{Rose};
 ghost use Rattle.cm_syntax.specs.declared.expr.Expr.{Expr};
-ghost use Rattle.cm_syntax.specs.Expr.{value_of};
 ghost use Rattle.cilkm.specs.First.{IsFirstForm};
+ghost use Rattle.cilkm.specs.Run.{Run, IsRunOf};
 ghost use Rattle.cilkm.specs.declared.command.Command.TheVariants as commands;
 ghost use Rattle.cilkm.specs.declared.verdict.Verdict.{Verdict};
 ghost use Rattle.cilkm.specs.declared.verdict.Verdict.TheVariants as verdicts;
@@ -49,7 +49,7 @@ pub fn still<I: Source, O: Sink>(alloc: Global, words: &[&str], source: &mut I, 
     ensures serial { command_of (texts words.now) ≡ Some commands.Serial → IfSome (I.left source.old) (λ input.
         (expression : Expr ℕ) → IsFirstForm input expression
         → (Rose (I.faults source.old) (I.faults source.new) → ⊥) → (Rose (O.faults sink.old) (O.faults sink.new) → ⊥)
-        → ((value : ℤ) × (value_of expression ≡ Some value) × Says (verdicts.Value value) result (O.taken sink.old) (O.taken sink.new))
+        → ((run : Run) × IsRunOf expression run × Says (verdicts.Value run) result (O.taken sink.old) (O.taken sink.new))
         ⊎ Says verdicts.Memory result (O.taken sink.old) (O.taken sink.new)) }
 
     ensures source_kept { I.faults source.old ≤ I.faults source.new }
@@ -111,10 +111,9 @@ fn source_verdict(alloc: Global, source: &[u8]) -> Result<Verdict, Memory>
         return Ok(Verdict::Refused(0, Refusal::Syntax));
     };
     let words = make_first(alloc, &expression, PAGE)?;
-    let image = Image { words };
     let mut stack = Stack::new(alloc)?;
-    let value = hart::run(&image, &mut stack, ACCOUNT, TICKS);
-    Ok(Verdict::Value(value))
+    let run = hart::run(Image { words }, &mut stack, ACCOUNT, TICKS);
+    Ok(Verdict::Value(run))
 }
 
 /// Writes the verdict's line, or that of want of memory, and gives the status.
@@ -123,16 +122,16 @@ fn tell<O: Sink>(alloc: Global, verdict: Verdict, sink: &mut O) -> u8
     ensures kept { O.faults sink.old ≤ O.faults sink.new }
 {
     match verdict.text(alloc) {
-        Ok(text) => say(verdict, text.as_bytes(), sink),
-        Err(_) => say(Verdict::Memory, b"memory\n", sink),
+        Ok(text) => say(&verdict, text.as_bytes(), sink),
+        Err(_) => say(&Verdict::Memory, b"memory\n", sink),
     }
 }
 
 /// Writes a verdict's line, and gives the status: 6 where the sink failed.
-fn say<O: Sink>(verdict: Verdict, text: &[u8], sink: &mut O) -> u8
-    requires { text.now ≡ verdict_text verdict }
-    ensures says { Says verdict result (O.taken sink.old) (O.taken sink.new)
-        ⊎ BreaksOff verdict result (O.taken sink.old) (O.taken sink.new) (O.faults sink.old) (O.faults sink.new) }
+fn say<O: Sink>(verdict: &Verdict, text: &[u8], sink: &mut O) -> u8
+    requires { text.now ≡ verdict_text verdict.now }
+    ensures says { Says verdict.now result (O.taken sink.old) (O.taken sink.new)
+        ⊎ BreaksOff verdict.now result (O.taken sink.old) (O.taken sink.new) (O.faults sink.old) (O.faults sink.new) }
     ensures kept { O.faults sink.old ≤ O.faults sink.new }
 {
     match write_all(sink, text) {
