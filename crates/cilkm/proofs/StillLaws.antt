@@ -1,7 +1,7 @@
 -- From the machine's run to the verdict, and from the verdict to the status.
 use Rattle.std.proofs.Common.{◌≡◌, ℕ, ◌<◌, ◌≤◌, ◌^◌, List, length, Option, Some, None, refl, sym, ◌∙◌, subst, arith, rules, inl, inr}
 use Rattle.std.specs.Prelude.{ℤ, ◌⊎◌, IfSome}
-use Rattle.cm_text.specs.Counts.{Rose}
+use Rattle.cm_text.specs.Count.{Rose}
 use Rattle.cm_syntax.specs.declared.expr.Expr.{Expr}
 use Rattle.cm_syntax.specs.Expr.{value_of, operator_count, IsClosed}
 use Rattle.cm_gen.specs.Code.{frame_bytes}
@@ -17,7 +17,7 @@ use Rattle.cilkm.specs.declared.verdict.Verdict.{Verdict}
 use Rattle.cilkm.specs.declared.verdict.Verdict.TheVariants.{Usage, Read, Long, Refused, Value, Memory}
 use Rattle.cilkm.specs.Verdict.{Means, IsCaused, Says, BreaksOff, Tells}
 use Rattle.cilkm.proofs.HartLaws.{stack_start}
-use Rattle.cilkm.proofs.Once.{one_form}
+use Rattle.cilkm.proofs.OneTree.{one_form}
 
 -- a program that runs to a value does so from the start that the settings give
 pub runs_from_start : (image : List ℕ) (e : Expr ℕ) (stack : List ℕ) → length stack ≡ 65536 → IsClosed e → operator_count e ≤ 64 → RunsTo image e
@@ -29,25 +29,25 @@ runs_from_start image e stack size closed few runs =
     (runs.0, runs.1, ran.0, ran.1, ran.2)
 
 -- what the bytes mean is the cause, where they are those that the source told
-pub caused_by : (verdict : Verdict) (bytes : List ℕ) (input : Option (List ℕ)) (before now : ℕ) → Means (Some Serial) bytes verdict
+pub cause_from_bytes : (verdict : Verdict) (bytes : List ℕ) (input : Option (List ℕ)) (before now : ℕ) → Means (Some Serial) bytes verdict
     → IfSome input (λ told. bytes ≡ told) → IsCaused (Some Serial) input before now verdict
-caused_by Usage bytes input before now means told = absurd means
-caused_by Read bytes input before now means told = absurd means
-caused_by Memory bytes input before now means told = tt
-caused_by Long bytes None before now means told = (search rules, tt)
-caused_by Long bytes (Some all) before now means told = (search rules, subst (λ b. Means (Some Serial) b Long) told means)
-caused_by (Refused place Syntax) bytes None before now means told = (search rules, tt)
-caused_by (Refused place Syntax) bytes (Some all) before now means told = (search rules, subst (λ b. Means (Some Serial) b (Refused place Syntax)) told means)
-caused_by (Value run) bytes None before now means told = (search rules, tt)
-caused_by (Value run) bytes (Some all) before now means told = (search rules, subst (λ b. Means (Some Serial) b (Value run)) told means)
+cause_from_bytes Usage bytes input before now means told = absurd means
+cause_from_bytes Read bytes input before now means told = absurd means
+cause_from_bytes Memory bytes input before now means told = tt
+cause_from_bytes Long bytes None before now means told = (search rules, tt)
+cause_from_bytes Long bytes (Some all) before now means told = (search rules, subst (λ b. Means (Some Serial) b Long) told means)
+cause_from_bytes (Refused offset Syntax) bytes None before now means told = (search rules, tt)
+cause_from_bytes (Refused offset Syntax) bytes (Some all) before now means told = (search rules, subst (λ b. Means (Some Serial) b (Refused offset Syntax)) told means)
+cause_from_bytes (Value run) bytes None before now means told = (search rules, tt)
+cause_from_bytes (Value run) bytes (Some all) before now means told = (search rules, subst (λ b. Means (Some Serial) b (Value run)) told means)
 
 -- what was said has its cause too, since want of memory needs none
-pub said_with_cause : (verdict : Verdict) (status : ℕ) (command : Option Command) (input old new : Option (List ℕ)) (before now sink_before sink_now : ℕ)
+pub answer_with_cause : (verdict : Verdict) (status : ℕ) (command : Option Command) (input old new : Option (List ℕ)) (before now sink_before sink_now : ℕ)
     → IsCaused command input before now verdict → Tells verdict status old new sink_before sink_now
     → (said : Verdict) × IsCaused command input before now said × (Says said status old new ⊎ BreaksOff said status old new sink_before sink_now)
-said_with_cause verdict status command input old new before now sink_before sink_now caused (said, inl same, told) =
+answer_with_cause verdict status command input old new before now sink_before sink_now caused (said, inl same, told) =
     (said, subst (IsCaused command input before now) (sym same) caused, told)
-said_with_cause verdict status command input old new before now sink_before sink_now caused (said, inr memory, told) =
+answer_with_cause verdict status command input old new before now sink_before sink_now caused (said, inr memory, told) =
     (said, subst (IsCaused command input before now) (sym memory) tt, told)
 
 -- ---- a source of the form
@@ -62,7 +62,7 @@ module _ (input : List ℕ) (e : Expr ℕ) (form : IsFirstForm input e) where
       some_none h = cc
   verdict_is Read before now caused calm = absurd (calm caused.1)
   verdict_is Long before now caused calm = absurd (omega (arith, caused.1, form.short))
-  verdict_is (Refused place Syntax) before now caused calm = absurd (caused.1.2 e form)
+  verdict_is (Refused offset Syntax) before now caused calm = absurd (caused.1.2 e form)
   verdict_is (Value run) before now caused calm =
       let found = caused.1 in
       let same = one_form input found.1 e found.2 form in

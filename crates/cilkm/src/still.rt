@@ -1,14 +1,14 @@
 //! The top call: from the words and standard input to the status and standard output.
 ghost use Rattle.std.specs.Prelude.{◌≡◌, ◌≢◌, ℕ, ◌≤◌, ◌⊎◌, Some, IfOk, IfSome, length};
 ghost use Rattle.std.specs.IoError.{error_kind};
-ghost use Rattle.cm_text.specs.Counts.{Rose};
+ghost use Rattle.cm_text.specs.Count.{Rose};
 ghost use Rattle.cm_syntax.specs.declared.expr.Expr.{Expr};
 ghost use Rattle.cilkm.specs.First.{IsFirstForm};
 ghost use Rattle.cilkm.specs.Run.{Run, IsRunOf};
 ghost use Rattle.cilkm.specs.declared.command.Command.TheVariants as commands;
 ghost use Rattle.cilkm.specs.declared.verdict.Verdict.{Verdict};
 ghost use Rattle.cilkm.specs.declared.verdict.Verdict.TheVariants as verdicts;
-ghost use Rattle.cilkm.specs.Verdict.{texts, command_of, input_limit, verdict_text, verdict_status, Means, IsCaused, Says, BreaksOff, Tells, IsDecided};
+ghost use Rattle.cilkm.specs.Verdict.{texts, command_of, max_input, verdict_text, verdict_status, Means, IsCaused, Says, BreaksOff, Tells, IsDecided};
 
 use crate::command::{self, Command};
 use crate::first;
@@ -21,7 +21,7 @@ use std::alloc::Global;
 use std::io::{self, ErrorKind};
 
 /// The most bytes of standard input.
-const INPUT_LIMIT: u32 = 4_194_304;
+const MAX_INPUT: u32 = 4_194_304;
 
 /// The bytes of the stack account.
 const ACCOUNT: u32 = 262_144;
@@ -92,7 +92,7 @@ fn serial_verdict<I: Source>(alloc: Global, source: &mut I) -> Result<Verdict, M
     ensures cause { IfOk result (IsCaused (Some commands.Serial) (I.left source.old) (I.faults source.old) (I.faults source.new)) }
     ensures kept { I.faults source.old ≤ I.faults source.new }
 {
-    let bytes = match read_all(alloc, source, INPUT_LIMIT) {
+    let bytes = match read_all(alloc, source, MAX_INPUT) {
         Ok(bytes) => bytes,
         Err(ReadEnd::Fault) => return Ok(Verdict::Read),
         Err(ReadEnd::Long { .. }) => return Ok(Verdict::Long),
@@ -104,7 +104,7 @@ fn serial_verdict<I: Source>(alloc: Global, source: &mut I) -> Result<Verdict, M
 
 /// What a source comes to, compiled and run on one hart.
 fn source_verdict(alloc: Global, source: &[u8]) -> Result<Verdict, Memory>
-    requires { length source.now ≤ input_limit }
+    requires { length source.now ≤ max_input }
     ensures { IfOk result (Means (Some commands.Serial) source.now) }
 {
     let Some(expression) = first::read(alloc, source)? else {

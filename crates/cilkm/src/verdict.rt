@@ -22,7 +22,7 @@ pub enum Verdict {
     Read,
     /// Standard input has more than 4,194,304 bytes.
     Long,
-    /// The source is refused at a place, a number of bytes, for a reason.
+    /// The source is refused at an offset, in bytes from its start, for a reason.
     Refused(u32, Refusal),
     /// The source was compiled, and the run of its code ended with a value.
     Value(EndedRun),
@@ -57,8 +57,8 @@ impl Verdict {
             Verdict::Usage => String::from_str(alloc, "usage\n"),
             Verdict::Read => String::from_str(alloc, "read\n"),
             Verdict::Long => String::from_str(alloc, "long\n"),
-            Verdict::Refused(place, Refusal::Syntax) => format!(in alloc;
-                "refused {place} syntax\n"
+            Verdict::Refused(offset, Refusal::Syntax) => format!(in alloc;
+                "refused {offset} syntax\n"
             ),
             Verdict::Value(run) => format!(in alloc; "value {}\n", run.value()),
             Verdict::Memory => String::from_str(alloc, "memory\n"),

@@ -1,9 +1,9 @@
 //! Streams over the readers and writers of std, and those over standard input and output.
 ghost use Rattle.std.specs.Prelude.{◌≡◌, ◌<◌, ◌≤◌, Ok, IsErr, IfOk, OnErr};
-ghost use Rattle.cm_text.specs.Counts.{raised};
+ghost use Rattle.cm_text.specs.Count.{next_count};
 
-use crate::errors::Failed;
-use crate::streams::{Sink, Source};
+use crate::error::Failed;
+use crate::stream::{Sink, Source};
 use std::io::{self, Read, Stdin, Stdout, Write};
 
 /// A reader as a source, which tells the bytes that the reader tells. Each error that a read meets, also
@@ -34,8 +34,8 @@ pub type RealSink = WriterSink<Stdout>;
 /// An error, or fewer bytes, is a fault, which raises the count.
 fn settle(answer: io::Result<usize>, least: usize, faults: &mut u64) -> Result<usize, Failed>
     ensures moved { IfOk answer (λ count. least ≤ count → (result ≡ Ok count) × (faults.new ≡ faults.old)) }
-    ensures short { IfOk answer (λ count. count < least → IsErr result × (faults.new ≡ raised faults.old)) }
-    ensures fault { OnErr answer (IsErr result × (faults.new ≡ raised faults.old)) }
+    ensures short { IfOk answer (λ count. count < least → IsErr result × (faults.new ≡ next_count faults.old)) }
+    ensures fault { OnErr answer (IsErr result × (faults.new ≡ next_count faults.old)) }
     ensures kept { faults.old ≤ faults.new }
 {
     match answer {
