@@ -3,8 +3,8 @@ use Rattle.std.specs.Prelude.{ℕ, ◌+◌, ◌-◌, ◌^◌, ◌≤◌, min, Bo
 use Rattle.std.specs.List.{list_any}
 
 -- the count after one more call or fault: it stays at the last value of a u64
-abbrev pub raised : ℕ → ℕ
-raised count = min (count + 1) (2 ^ 64 - 1)
+abbrev pub next_count : ℕ → ℕ
+next_count count = min (count + 1) (2 ^ 64 - 1)
 
 -- the count rose: it is higher than before, or it stands at the last value of a u64
 abbrev pub Rose : ℕ → ℕ → Type 0

@@ -1,7 +1,7 @@
 //! A `Vec` that contracts see as the list of its items.
 ghost use Rattle.std.specs.Prelude.{◌≡◌, ◌↔◌, ◌++◌, ◌∷◌, [], length, IsTrue, MatchOption, OnOk, OnErr};
 
-use crate::errors::Memory;
+use crate::error::Memory;
 use std::alloc::Global;
 use std::marker::Model;
 

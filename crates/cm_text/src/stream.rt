@@ -2,9 +2,9 @@
 ghost use Rattle.std.specs.Prelude.{ℕ, ◌≡◌, ◌<◌, ◌≤◌, List, Option, length, IfOk, OnErr};
 ghost use Rattle.std.specs.Io.{ReadsAtMost, WritesAtMost};
 ghost use Rattle.std.specs.Io.KnownBytes.{ReadConsumes, WriteAppends};
-ghost use Rattle.cm_text.specs.Counts.{Rose, raised};
+ghost use Rattle.cm_text.specs.Count.{Rose, next_count};
 
-use crate::errors::Failed;
+use crate::error::Failed;
 
 /// A source of bytes.
 pub trait Source {
@@ -17,7 +17,7 @@ pub trait Source {
     // How many reads there were, which stops at the last value of a u64.
     ghost reads: { Self → ℕ };
 
-    /// Fills the first places of `into` with the next bytes, and returns how many. It is 0 for a room
+    /// Fills the front of `into` with the next bytes, and returns how many. It is 0 for a room
     /// that isn't empty only at the end of input. `Failed` comes only where the count of faults rose,
     /// and then no byte is gone.
     fn read(&mut self, into: &mut [u8]) -> Result<usize, Failed>
@@ -25,7 +25,7 @@ pub trait Source {
         ensures bytes { ReadConsumes (left self.old) (left self.new) result into.new }
         ensures fault { OnErr result (Rose (faults self.old) (faults self.new)) }
         ensures kept { faults self.old ≤ faults self.new }
-        ensures counted { reads self.new ≡ raised (reads self.old) };
+        ensures counted { reads self.new ≡ next_count (reads self.old) };
 }
 
 /// A sink of bytes.

@@ -1,6 +1,6 @@
 //! The numbers of standard input.
 ghost use Rattle.std.specs.Option.{SomeIff};
-ghost use Rattle.cm_text.specs.Numbers.{IsNumber, number_value};
+ghost use Rattle.cm_text.specs.Numeral.{IsNumber, number_value};
 
 /// The value of a piece of input: an optional `-` and one or more digits, with a value from -2147483648
 /// to 2147483647. `None` exactly where the piece is no such number.

@@ -1,4 +1,4 @@
--- Tokens have one place to stand: the white space before them, and the digits of a number, end where they must.
+-- A token stands at one offset: the white space before it, and the digits of a number, end where they must.
 use Rattle.std.proofs.Common.{◌≡◌, to_z, of_z, to_z-of_z, w32, FitsSigned, pos, append-nil, ◌≢◌, Option, None, Some, Bor, MatchOption, IfSome, IsSomeAnd, take, drop, get_or, length-append, ℕ, ◌+◌, ◌*◌, ◌-◌, ◌≤◌, ◌<◌, min, length, Bool, true, false, List, [], ◌∷◌, ◌++◌, refl, sym, ap, subst, ℤ, ◌∙◌, arith, if◌then◌else◌}
 use Rattle.std.specs.Char.{is_ascii_digit, digit_value}
 use Rattle.std.specs.List.{AllByRecursion}
@@ -7,7 +7,8 @@ use Rattle.std.proofs.lemmas.Bool.Decides.{nat_tests}
 use Rattle.std.proofs.lemmas.Str.Parse.{digit_from_value, digit_at}
 use Rattle.std.proofs.lemmas.Int.Digits.{digits_value_more}
 use Rattle.std.proofs.lemmas.List.{take_at, drop_at, nil_from_length}
-use Rattle.cilkm.specs.Scan.{is_space, is_word_byte, IsWhite, DoesNotBegin, StartsBlack, Stands, IsLiteral, LiteralStands, after, front}
+use Rattle.cm_syntax.specs.Text.{is_space, is_word_byte}
+use Rattle.cilkm.specs.Scan.{IsWhite, DoesNotBegin, StartsBlack, TokenAt, IsLiteral, LiteralAt, after, front}
 
 -- bytes are those that pass the test and those that follow
 pub front-after : (test : ℕ → Bool) (bytes : List ℕ) → bytes ≡ front test bytes ++ after test bytes
@@ -60,12 +61,12 @@ black_first : (token rest : List ℕ) → StartsBlack token → DoesNotBegin is_
 black_first [] rest h = absurd h
 black_first (b ∷ token) rest h = h
 
-pub after_space-from_stands : (token bytes rest : List ℕ) → StartsBlack token → Stands token bytes rest → after is_space bytes ≡ token ++ rest
-after_space-from_stands token bytes rest black s =
+pub after_space-from_token : (token bytes rest : List ℕ) → StartsBlack token → TokenAt token bytes rest → after is_space bytes ≡ token ++ rest
+after_space-from_token token bytes rest black s =
     ap (after is_space) s.text ∙ after-append is_space s.spaces (token ++ rest) s.white (black_first token rest black)
 
-pub stands_from_after_space : (token bytes rest : List ℕ) → after is_space bytes ≡ token ++ rest → Stands token bytes rest
-stands_from_after_space token bytes rest e = record {
+pub token_from_after_space : (token bytes rest : List ℕ) → after is_space bytes ≡ token ++ rest → TokenAt token bytes rest
+token_from_after_space token bytes rest e = record {
   spaces = front is_space bytes;
   white = front_passes is_space bytes;
   text = front-after is_space bytes ∙ ap (λ more. front is_space bytes ++ more) e;
@@ -101,24 +102,24 @@ pub record IsFront (number : ℤ) (text rest : List ℕ) : Type 0 where
   pub rest_is : after is_ascii_digit text ≡ rest
   pub apart : DoesNotBegin is_word_byte rest
 
-pub front_from_literal : (number : ℤ) (bytes rest : List ℕ) → LiteralStands number bytes rest → IsFront number (after is_space bytes) rest
+pub front_from_literal : (number : ℤ) (bytes rest : List ℕ) → LiteralAt number bytes rest → IsFront number (after is_space bytes) rest
 front_from_literal number bytes rest s =
     let digits : List ℕ = s.digits in
-    let text : after is_space bytes ≡ digits ++ rest = after_space-from_stands digits bytes rest (black_digits digits s.literal.numeral) s.stands.stands in
+    let text : after is_space bytes ≡ digits ++ rest = after_space-from_token digits bytes rest (black_digits digits s.literal.numeral) s.word.here in
     let passes = digits_pass digits s.literal.numeral.1 in
-    let ends = no_digit_apart rest s.stands.apart in
+    let ends = no_digit_apart rest s.word.apart in
     record {
       literal = subst (λ ds. IsLiteral ds number) (sym (ap (front is_ascii_digit) text ∙ front-append is_ascii_digit digits rest passes ends)) s.literal;
       rest_is = ap (after is_ascii_digit) text ∙ after-append is_ascii_digit digits rest passes ends;
-      apart = s.stands.apart;
+      apart = s.word.apart;
     }
 
-pub literal_from_front : (number : ℤ) (bytes rest : List ℕ) → IsFront number (after is_space bytes) rest → LiteralStands number bytes rest
+pub literal_from_front : (number : ℤ) (bytes rest : List ℕ) → IsFront number (after is_space bytes) rest → LiteralAt number bytes rest
 literal_from_front number bytes rest f = record {
   digits = front is_ascii_digit (after is_space bytes);
   literal = f.literal;
-  stands = record {
-    stands = stands_from_after_space _ bytes rest (front-after is_ascii_digit (after is_space bytes) ∙ ap (λ more. front is_ascii_digit (after is_space bytes) ++ more) f.rest_is);
+  word = record {
+    here = token_from_after_space _ bytes rest (front-after is_ascii_digit (after is_space bytes) ∙ ap (λ more. front is_ascii_digit (after is_space bytes) ++ more) f.rest_is);
     apart = f.apart;
   };
 }
@@ -137,25 +138,25 @@ pub same_rest : (first a b : List ℕ) → first ++ a ≡ first ++ b → a ≡ b
 same_rest [] a b e = e
 same_rest (f ∷ first) a b e = same_rest first a b (let e' : f ∷ (first ++ a) ≡ f ∷ (first ++ b) = e in cc)
 
--- two tokens that stand at one place begin one text
-pub one_text : (token other bytes x y : List ℕ) → StartsBlack token → StartsBlack other → Stands token bytes x → Stands other bytes y → token ++ x ≡ other ++ y
-one_text token other bytes x y black too s t = sym (after_space-from_stands token bytes x black s) ∙ after_space-from_stands other bytes y too t
+-- two tokens that stand at one offset begin one text
+pub one_text : (token other bytes x y : List ℕ) → StartsBlack token → StartsBlack other → TokenAt token bytes x → TokenAt other bytes y → token ++ x ≡ other ++ y
+one_text token other bytes x y black too s t = sym (after_space-from_token token bytes x black s) ∙ after_space-from_token other bytes y too t
 
 -- what `strip_prefix` gives of the bytes after white space
 pub stripped_found : (token bytes text : List ℕ) (r : Option (Bor (List ℕ))) → text ≡ after is_space bytes
-    → MatchOption r ((rest : List ℕ) → text ≢ token ++ rest) (λ x. text ≡ token ++ x.now) → IfSome r (λ x. Stands token bytes x.now)
+    → MatchOption r ((rest : List ℕ) → text ≢ token ++ rest) (λ x. text ≡ token ++ x.now) → IfSome r (λ x. TokenAt token bytes x.now)
 stripped_found token bytes text None e h = tt
-stripped_found token bytes text (Some x) e h = stands_from_after_space token bytes x.now (sym e ∙ h)
+stripped_found token bytes text (Some x) e h = token_from_after_space token bytes x.now (sym e ∙ h)
 
 pub stripped_only : (token bytes text : List ℕ) (r : Option (Bor (List ℕ))) → text ≡ after is_space bytes
     → MatchOption r ((rest : List ℕ) → text ≢ token ++ rest) (λ x. text ≡ token ++ x.now) → StartsBlack token
-    → (rest : List ℕ) → Stands token bytes rest → IsSomeAnd r (λ x. x.now ≡ rest)
-stripped_only token bytes text None e h black rest s = absurd (h rest (e ∙ after_space-from_stands token bytes rest black s))
-stripped_only token bytes text (Some x) e h black rest s = same_rest token x.now rest (sym h ∙ e ∙ after_space-from_stands token bytes rest black s)
+    → (rest : List ℕ) → TokenAt token bytes rest → IsSomeAnd r (λ x. x.now ≡ rest)
+stripped_only token bytes text None e h black rest s = absurd (h rest (e ∙ after_space-from_token token bytes rest black s))
+stripped_only token bytes text (Some x) e h black rest s = same_rest token x.now rest (sym h ∙ e ∙ after_space-from_token token bytes rest black s)
 
 -- what stands at the front, by its two parts
 pub literal_from_parts : (number : ℤ) (bytes text digits rest : List ℕ) → text ≡ after is_space bytes → digits ≡ front is_ascii_digit text → rest ≡ after is_ascii_digit text
-    → IsLiteral digits number → DoesNotBegin is_word_byte rest → LiteralStands number bytes rest
+    → IsLiteral digits number → DoesNotBegin is_word_byte rest → LiteralAt number bytes rest
 literal_from_parts number bytes text digits rest e d r literal apart = literal_from_front number bytes rest (record {
   literal = subst (λ ds. IsLiteral ds number) (d ∙ ap (front is_ascii_digit) e) literal;
   rest_is = sym (r ∙ ap (after is_ascii_digit) e);
@@ -163,7 +164,7 @@ literal_from_parts number bytes text digits rest e d r literal apart = literal_f
 })
 
 pub parts_from_literal : (number : ℤ) (bytes text digits rest end : List ℕ) → text ≡ after is_space bytes → digits ≡ front is_ascii_digit text → rest ≡ after is_ascii_digit text
-    → LiteralStands number bytes end → IsLiteral digits number × (rest ≡ end) × DoesNotBegin is_word_byte rest
+    → LiteralAt number bytes end → IsLiteral digits number × (rest ≡ end) × DoesNotBegin is_word_byte rest
 parts_from_literal number bytes text digits rest end e d r s =
     let f = front_from_literal number bytes end s in
     let same : rest ≡ end = r ∙ ap (after is_ascii_digit) e ∙ f.rest_is in
@@ -187,15 +188,15 @@ white_from_after bytes none =
     subst IsWhite (sym (front-after is_space bytes ∙ ap (λ more. front is_space bytes ++ more) empty ∙ append-nil _)) (front_passes is_space bytes)
 
 -- a token takes its bytes off the front
-pub length-stands : (token bytes rest : List ℕ) → Stands token bytes rest → length token + length rest ≤ length bytes
-length-stands token bytes rest s = omega (arith, simp length-append at (ap length s.text))
+pub length-token : (token bytes rest : List ℕ) → TokenAt token bytes rest → length token + length rest ≤ length bytes
+length-token token bytes rest s = omega (arith, simp length-append at (ap length s.text))
 
-pub shorter-stands : (token bytes rest : List ℕ) → StartsBlack token → Stands token bytes rest → length rest < length bytes
-shorter-stands [] bytes rest black s = absurd black
-shorter-stands (b ∷ token) bytes rest black s = omega (arith, length-stands (b ∷ token) bytes rest s)
+pub shorter-token : (token bytes rest : List ℕ) → StartsBlack token → TokenAt token bytes rest → length rest < length bytes
+shorter-token [] bytes rest black s = absurd black
+shorter-token (b ∷ token) bytes rest black s = omega (arith, length-token (b ∷ token) bytes rest s)
 
-pub word_stands : (number : ℤ) (bytes rest : List ℕ) → LiteralStands number bytes rest → to_z w32 (of_z w32 number) ≡ number
-word_stands number bytes rest s = literal_word s.digits number s.literal
+pub literal_fits : (number : ℤ) (bytes rest : List ℕ) → LiteralAt number bytes rest → to_z w32 (of_z w32 number) ≡ number
+literal_fits number bytes rest s = literal_word s.digits number s.literal
 
 -- white space and digits taken off the front leave no more than there was
 pub length_twice : (one two : ℕ → Bool) (bytes text rest : List ℕ) → text ≡ after one bytes → rest ≡ after two text → length rest ≤ length bytes

@@ -7,7 +7,7 @@ use Rattle.cm_gen.specs.Run.{Ends}
 use Rattle.cm_hart.specs.declared.harts.Hart.{Hart}
 use Rattle.cilkm.specs.Stack.{stack_machine}
 use Rattle.cilkm.proofs.HartLaws.{may_access, stepped, leads_by, not_page_fault, not_fault, at_service, at_going}
-use Rattle.cilkm.proofs.hart.run.Goals as goal
+use Rattle.cilkm.proofs.hart.end_value.Goals as goal
 
 pub run-init : goal.run-init
 run-init c =

@@ -2,7 +2,7 @@ use Rattle.std.proofs.Common.{◌≡◌, ℕ, ◌+◌, ◌<◌, ◌^◌, length}
 use Rattle.std.specs.Prelude.{ℤ}
 use Rattle.cm_gen.specs.Run.{Ends}
 use Rattle.cilkm.specs.Stack.{stack_machine, start_machine}
-use Rattle.cilkm.proofs.hart.run.Given as goal
+use Rattle.cilkm.proofs.hart.end_value.Given as goal
 
 -- the run still ends, in time; and each way in which it ends from the start it ends from here
 abbrev pub invariant-run : goal.invariant-run
