@@ -13,7 +13,7 @@ use Rattle.cm_syntax.specs.declared.expr.Expr.TheVariants.{Number}
 use Rattle.cm_syntax.specs.Shape.{Joined}
 use Rattle.cm_syntax.specs.Expr.{value_of, IsClosed}
 use Rattle.cm_syntax.specs.Frame.{temporaries}
-use Rattle.cm_syntax.specs.Word.{combined}
+use Rattle.cm_syntax.specs.Word.{apply_operator}
 use Rattle.cm_gen.specs.Machine.{Machine, Code, ComesTo, StandsAt, with_word}
 use Rattle.cm_gen.specs.Code.{load_slot, store_slot, operate, evaluate, temporary}
 use Rattle.cm_gen.proofs.WordLemmas as words
@@ -39,7 +39,7 @@ both_some f (Some a) None v e = absurd (none_some v e)
     none_some v e = cc
 both_some f (Some a) (Some b) v e = (a, b, refl, refl, e)
 
-combined_fits : (op : Op) (a b v : ℤ) → combined op a b ≡ Some v → FitsSigned w32 v
+combined_fits : (op : Op) (a b v : ℤ) → apply_operator op a b ≡ Some v → FitsSigned w32 v
 combined_fits Mul a b v e = subst (FitsSigned w32) (same _ v e) (words.wrapped_fits _)
   where
     same : (x v : ℤ) → Some x ≡ Some v → x ≡ v
@@ -64,7 +64,7 @@ value_fits (Number n) v closed means = subst (FitsSigned w32) (same n v means) c
     same : (x v : ℤ) → Some x ≡ Some v → x ≡ v
     same x v e = cc
 value_fits (Joined op left right) v closed means =
-    let parts = both_some (combined op) (value_of left) (value_of right) v means in
+    let parts = both_some (apply_operator op) (value_of left) (value_of right) v means in
     combined_fits op parts.0 parts.1 v parts.4
 value_fits _ v closed means = absurd closed
 
@@ -190,7 +190,7 @@ module _ (code : Code) where
       → StandsAt code n.counter part → (t : Machine) × ComesTo code (length part) n t × Evaluated slots d limit a (4 * length part) n t
 
   joined_runs : (op : Op) (first keep second bring : List Operation) (slots d limit f : ℕ) (a b v : ℤ)
-      → FitsSigned w32 a → FitsSigned w32 b → combined op a b ≡ Some v → HasRoom f slots limit → d < limit
+      → FitsSigned w32 a → FitsSigned w32 b → apply_operator op a b ≡ Some v → HasRoom f slots limit → d < limit
       → Gives first slots d limit f a → Keeps keep f (temporary_address f slots d) → Gives second slots (d + 1) limit f b → Brings bring f (temporary_address f slots d)
       → Gives (first ++ (keep ++ (second ++ (bring ++ operate op ∷ [])))) slots d limit f v
   joined_runs op first keep second bring slots d limit f a b v fits_a fits_b means room within left kept right brought m zero_is frame mapped bound stands =
@@ -292,7 +292,7 @@ module _ (code : Code) where
         },
       )
   evaluate_runs slots (Joined op left right) d limit f v closed means enough room =
-      let parts = both_some (combined op) (value_of left) (value_of right) v means in
+      let parts = both_some (apply_operator op) (value_of left) (value_of right) v means in
       let few = subst (λ n. n ≤ limit) (temporaries-Joined op left right d closed.1) enough in
       let within : d < limit = omega arith in
       joined_runs op (evaluate slots left d) (store_slot 5 (temporary slots d)) (evaluate slots right (d + 1)) (load_slot 6 (temporary slots d)) slots d limit f parts.0 parts.1 v

@@ -9,7 +9,7 @@ use Rattle.cm_gen.specs.Machine.{Machine, Code, ComesTo, StandsAt, after, moved,
 use Rattle.cm_gen.specs.Operations.{lui, addi, add, lw, sw}
 use Rattle.cm_syntax.specs.declared.expr.Op.{Op}
 use Rattle.cm_syntax.specs.declared.expr.Op.TheVariants.{Mul, Add, Sub}
-use Rattle.cm_syntax.specs.Word.{wrapped, combined}
+use Rattle.cm_syntax.specs.Word.{wrap, apply_operator}
 use Rattle.cm_gen.specs.Code.{is_near, low_part, high_part, load_number, load_slot, store_slot, operate}
 use Rattle.cm_gen.proofs.WordLemmas as words
 use Rattle.cm_gen.proofs.Steps.{comes_by_one, comes_on, follow_is, with_register_same, with_register_other, load_word, store_word}
@@ -187,22 +187,22 @@ module _ (code : Code) where
   load_slot_runs r o a v m nonzero other frame place aligned there room stands = load_slot_by (is_near o) r o a v m nonzero other frame place aligned there room stands
 
   -- an operator of two words, its left one in register 6 and its right one in register 5
-  pub operate_runs : (op : Op) (left right value : ℤ) (m : Machine) → FitsSigned w32 left → FitsSigned w32 right → combined op left right ≡ Some value
+  pub operate_runs : (op : Op) (left right value : ℤ) (m : Machine) → FitsSigned w32 left → FitsSigned w32 right → apply_operator op left right ≡ Some value
       → m.registers 6 ≡ cast_unsigned w32 left → m.registers 5 ≡ cast_unsigned w32 right → m.counter + 4 < 2 ^ 32 → code m.counter (operate op)
       → (t : Machine) × ComesTo code 1 m t × Sets 5 (cast_unsigned w32 value) 4 m t
   operate_runs op left right value m fits_left fits_right means six five room stands =
       sets_by_one (operate op) 5 (cast_unsigned w32 value) m refl room stands (operated op means)
     where
-      joined : (f : ℤ → ℤ → ℤ) → Some (wrapped (f left right)) ≡ Some value → word (f (int (m.registers 6)) (int (m.registers 5))) ≡ cast_unsigned w32 value
+      joined : (f : ℤ → ℤ → ℤ) → Some (wrap (f left right)) ≡ Some value → word (f (int (m.registers 6)) (int (m.registers 5))) ≡ cast_unsigned w32 value
       joined f e =
           ap (λ u. word (f (int u) (int (m.registers 5)))) six ∙ ap (λ u. word (f (int (cast_unsigned w32 left)) (int u))) five
           ∙ ap (λ u. word (f u (int (cast_unsigned w32 right)))) (words.int-cast_unsigned left fits_left) ∙ ap (λ u. word (f left u)) (words.int-cast_unsigned right fits_right)
-          ∙ sym (words.cast_unsigned-wrapped (f left right)) ∙ ap (cast_unsigned w32) (same_value (wrapped (f left right)) value e)
+          ∙ sym (words.cast_unsigned-wrap (f left right)) ∙ ap (cast_unsigned w32) (same_value (wrap (f left right)) value e)
 
       next : ℕ → Option Machine
       next v = Some (moved m (with_register m.registers 5 v) (follow m.counter))
 
-      operated : (op : Op) → combined op left right ≡ Some value → after (operate op) m ≡ next (cast_unsigned w32 value)
+      operated : (op : Op) → apply_operator op left right ≡ Some value → after (operate op) m ≡ next (cast_unsigned w32 value)
       operated Mul e = ap next (joined (λ a b. a *ℤ b) e)
       operated Add e = ap next (joined (λ a b. a +ℤ b) e)
       operated Sub e = ap next (joined (λ a b. a -ℤ b) e)

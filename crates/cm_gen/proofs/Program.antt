@@ -10,9 +10,9 @@ use Rattle.cm_syntax.specs.declared.expr.Op.TheVariants.{Mul, Add, Sub}
 use Rattle.cm_syntax.specs.declared.expr.Expr.{Expr}
 use Rattle.cm_syntax.specs.declared.expr.Expr.TheVariants.{Number}
 use Rattle.cm_syntax.specs.Shape.{Joined}
-use Rattle.cm_syntax.specs.Expr.{value_of, operator_count, is_plain, IsClosed}
+use Rattle.cm_syntax.specs.Expr.{value_of, operator_count, is_supported, IsClosed}
 use Rattle.cm_syntax.specs.Frame.{temporaries}
-use Rattle.cm_syntax.specs.Word.{combined}
+use Rattle.cm_syntax.specs.Word.{apply_operator}
 use Rattle.cm_gen.specs.Machine.{Machine, Code, ComesTo, StandsAt, moved, with_register, with_word}
 use Rattle.cm_gen.specs.Operations.{lui, addi, add, sub, lw, sw, jal, jalr, bgeu}
 use Rattle.cm_gen.specs.Code.{is_near, high_part, low_part, load_number, load_slot, store_slot, operate, evaluate, temporary, service, tick, take_account, make_frame, entry, leave, frame_bytes, first_code}
@@ -69,12 +69,12 @@ has_value (Joined op left right) closed =
     let a = has_value left closed.0 in
     let b = has_value right closed.2 in
     let c = combined_value op closed.1 a.0 b.0 in
-    (c.0, ap (λ x. option_and_then (λ p. option_and_then (λ q. combined op p q) (value_of right)) x) a.1 ∙ ap (λ y. option_and_then (λ q. combined op a.0 q) y) b.1 ∙ c.1)
+    (c.0, ap (λ x. option_and_then (λ p. option_and_then (λ q. apply_operator op p q) (value_of right)) x) a.1 ∙ ap (λ y. option_and_then (λ q. apply_operator op a.0 q) y) b.1 ∙ c.1)
   where
     false_true : false ≡ true → ⊥
     false_true e = cc
 
-    combined_value : (op : Op) → is_plain op ≡ true → (a b : ℤ) → (v : ℤ) × (combined op a b ≡ Some v)
+    combined_value : (op : Op) → is_supported op ≡ true → (a b : ℤ) → (v : ℤ) × (apply_operator op a b ≡ Some v)
     combined_value Mul plain a b = (_, refl)
     combined_value Add plain a b = (_, refl)
     combined_value Sub plain a b = (_, refl)

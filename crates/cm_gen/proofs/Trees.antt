@@ -6,19 +6,19 @@ use Rattle.cm_syntax.specs.declared.expr.Op.TheVariants.{Mul, Add, Sub}
 use Rattle.cm_syntax.specs.declared.expr.Expr.{Expr}
 use Rattle.cm_syntax.specs.declared.expr.Expr.TheVariants.{Binary}
 use Rattle.cm_syntax.specs.Shape.{Joined, Binary-Joined}
-use Rattle.cm_syntax.specs.Expr.{operator_count, is_plain, IsClosed}
-use Rattle.cm_syntax.specs.Frame.{is_short, temporaries}
+use Rattle.cm_syntax.specs.Expr.{operator_count, is_supported, IsClosed}
+use Rattle.cm_syntax.specs.Frame.{is_short_circuit, temporaries}
 use Rattle.cm_gen.specs.Code.{evaluate, store_slot, load_slot, temporary, operate}
 
 -- `+`, `-` and `*` don't stop early
-plain_goes_on : (op : Op) → is_plain op ≡ true → is_short op ≡ false
+plain_goes_on : (op : Op) → is_supported op ≡ true → is_short_circuit op ≡ false
 plain_goes_on Mul plain = refl
 plain_goes_on Add plain = refl
 plain_goes_on Sub plain = refl
 plain_goes_on _ plain = cc
 
 -- the operands of a closed expression are closed, and their operator is plain
-pub closed-Binary : (e : Expr ℕ) (op : Op) (left right : Expr ℕ) → e ≡ Binary op left right → IsClosed e → IsClosed left × (is_plain op ≡ true) × IsClosed right
+pub closed-Binary : (e : Expr ℕ) (op : Op) (left right : Expr ℕ) → e ≡ Binary op left right → IsClosed e → IsClosed left × (is_supported op ≡ true) × IsClosed right
 closed-Binary e op left right is closed = subst IsClosed (is ∙ Binary-Joined op left right) closed
 
 -- an operation has the operators of its operands and its own
@@ -26,12 +26,12 @@ pub operator_count-Binary : (e : Expr ℕ) (op : Op) (left right : Expr ℕ) →
 operator_count-Binary e op left right is = ap operator_count (is ∙ Binary-Joined op left right)
 
 -- the left operand of a plain operator is kept while the right one is evaluated
-pub temporaries-Joined : (op : Op) (left right : Expr ℕ) (d : ℕ) → is_plain op ≡ true
+pub temporaries-Joined : (op : Op) (left right : Expr ℕ) (d : ℕ) → is_supported op ≡ true
     → temporaries (Joined op left right) d ≡ max (temporaries left d) (max (d + 1) (temporaries right (d + 1)))
 temporaries-Joined op left right d plain = rw (plain_goes_on op plain) refl
 
 -- the same of an expression that the code found to be an operation
-pub temporaries-Binary : (e : Expr ℕ) (op : Op) (left right : Expr ℕ) (d : ℕ) → e ≡ Binary op left right → is_plain op ≡ true
+pub temporaries-Binary : (e : Expr ℕ) (op : Op) (left right : Expr ℕ) (d : ℕ) → e ≡ Binary op left right → is_supported op ≡ true
     → temporaries e d ≡ max (temporaries left d) (max (d + 1) (temporaries right (d + 1)))
 temporaries-Binary e op left right d is plain = ap (λ x. temporaries x d) (is ∙ Binary-Joined op left right) ∙ temporaries-Joined op left right d plain
 

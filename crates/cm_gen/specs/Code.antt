@@ -11,7 +11,7 @@ use Rattle.cm_syntax.specs.declared.expr.Expr.{Expr}
 use Rattle.cm_syntax.specs.declared.expr.Expr.TheVariants.{Number}
 use Rattle.cm_syntax.specs.Shape.{Joined}
 use Rattle.cm_syntax.specs.Frame.{temporaries, rounded_frame}
-use Rattle.cm_syntax.specs.Word.{wrapped}
+use Rattle.cm_syntax.specs.Word.{wrap}
 use Rattle.cm_gen.specs.Operations.{lui, addi, add, sub, mul, lw, sw, jal, jalr, bne, bgeu}
 
 -- ---- numbers in instructions
@@ -26,7 +26,7 @@ low_part v = int_rem_euclid (v +ℤ pos 2048) (pos 4096) -ℤ pos 2048
 
 -- what is left of the number above them, as a word whose low 12 bits are 0
 abbrev pub high_part : ℤ → ℤ
-high_part v = wrapped (v -ℤ low_part v)
+high_part v = wrap (v -ℤ low_part v)
 
 -- ---- patterns
 

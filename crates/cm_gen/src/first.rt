@@ -83,7 +83,7 @@ fn evaluate(code: &mut List<Instr>, value: &Expr<u32>, depth: u32) -> Result<(),
 
 /// The operator `+`, `-` or `*`, with its left operand in register 6 and its right one in register 5.
 fn operate(op: Op) -> Instr
-    requires { expression.is_plain op ≡ true }
+    requires { expression.is_supported op ≡ true }
     ensures { result ≡ pattern.operate op }
 {
     match op {
