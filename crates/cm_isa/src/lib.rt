@@ -5,19 +5,19 @@
 mod arithmetic;
 mod coding;
 mod execution;
-mod fields;
-mod instructions;
-mod kinds;
-mod laws;
+mod field;
+mod instruction;
+mod kind;
+mod law;
 mod memory;
-mod registers;
+mod register;
 #[cfg(test)]
 mod tests;
 
 pub use coding::{decode, encode};
 pub use execution::{Action, FaultKind, Next, Size, effect};
-pub use instructions::Instr;
-pub use kinds::{Format, Kind};
-pub use laws::{one_instruction_per_word, one_word_per_instruction};
+pub use instruction::Instr;
+pub use kind::{Format, Kind};
+pub use law::{one_instruction_per_word, one_word_per_instruction};
 pub use memory::{Shown, Words};
-pub use registers::Regs;
+pub use register::Regs;

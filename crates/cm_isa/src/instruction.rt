@@ -1,10 +1,10 @@
 //! Instructions with their fields.
 ghost use Rattle.std.specs.Prelude.{◌≡◌, ◌↔◌, ◌<◌, ◌≤◌, ◌%◌, IsTrue, unsigned_abs};
-ghost use Rattle.cm_isa.specs.Formats.{IsInstr};
+ghost use Rattle.cm_isa.specs.Format.{IsInstr};
 ghost use Rattle.cm_isa.specs.Operation.{operation};
 ghost use Rattle.std.specs.Option.{SomeIff};
 
-use crate::kinds::{Format, Kind, format_of};
+use crate::kind::{Format, Kind, format_of};
 use std::marker::Model;
 
 /// An instruction: its kind and its fields. Each field that the format of the kind uses fits it, and
@@ -20,7 +20,7 @@ pub struct Instr {
 
 impl Model for Instr {
     ghost use Rattle.cm_isa.specs.Operation.{Operation, operation};
-    ghost use Rattle.cm_isa.specs.Formats.{IsInstr};
+    ghost use Rattle.cm_isa.specs.Format.{IsInstr};
 
     ghost Value = { Operation };
 

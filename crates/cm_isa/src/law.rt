@@ -1,6 +1,6 @@
 //! Laws of the listings: what the rows, which `encode` and `decode` are stated by, have in common.
 ghost use Rattle.std.specs.Prelude.{◌≡◌};
-ghost use Rattle.cm_isa.specs.Formats.{Row};
+ghost use Rattle.cm_isa.specs.Format.{Row};
 ghost use Rattle.cm_isa.specs.Operation.{Operation};
 
 /// A word is in the row of at most one instruction: to decode the word of an instruction gives this

@@ -1,6 +1,6 @@
 //! The kinds of instructions, and what the format of each fixes in its word.
 ghost use Rattle.std.specs.Prelude.{◌≡◌};
-ghost use Rattle.cm_isa.specs.Formats.{IsFormat, form_of};
+ghost use Rattle.cm_isa.specs.Format.{IsFormat, form_of};
 
 /// An instruction of RV32IM, without its fields (RISC-V Unprivileged ISA, RV32I 2.4 to 2.8 and M).
 #[derive(Clone, Copy, Debug, PartialEq, Eq)]
@@ -9,9 +9,9 @@ pub enum Kind {
     Lui,
     /// `auipc rd, imm`: rd takes pc plus the immediate.
     Auipc,
-    /// `jal rd, imm`: to pc plus the immediate, with the next place in rd.
+    /// `jal rd, imm`: to pc plus the immediate, with the next address in rd.
     Jal,
-    /// `jalr rd, rs1, imm`: to rs1 plus the immediate with bit 0 cleared, with the next place in rd.
+    /// `jalr rd, rs1, imm`: to rs1 plus the immediate with bit 0 cleared, with the next address in rd.
     Jalr,
     /// `beq rs1, rs2, imm`: a branch where the words are equal.
     Beq,

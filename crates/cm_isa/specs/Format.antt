@@ -2,10 +2,10 @@
 use Rattle.std.specs.Prelude.{◌≡◌, ℕ, ◌+◌, ◌*◌, ◌^◌, ◌%◌, ◌<◌, ◌≤ℤ◌, ◌<ℤ◌, ℤ, pos, unsigned_abs}
 use Rattle.cm_isa.specs.Bits.{bits, signed, IsSigned}
 use Rattle.cm_isa.specs.Operation.{Operation}
-use Rattle.cm_isa.specs.declared.kinds.Kind.{Kind}
-use Rattle.cm_isa.specs.declared.kinds.Kind.TheVariants as kinds
-use Rattle.cm_isa.specs.declared.kinds.Format.{Format}
-use Rattle.cm_isa.specs.declared.kinds.Format.TheVariants.{R, Shift, I, S, B, U, J, Whole}
+use Rattle.cm_isa.specs.declared.kind.Kind.{Kind}
+use Rattle.cm_isa.specs.declared.kind.Kind.TheVariants as kinds
+use Rattle.cm_isa.specs.declared.kind.Format.{Format}
+use Rattle.cm_isa.specs.declared.kind.Format.TheVariants.{R, Shift, I, S, B, U, J, Whole}
 
 -- ---- the table
 

@@ -1,6 +1,6 @@
 //! The registers of a hart.
 ghost use Rattle.std.specs.Prelude.{◌≡◌, ◌<◌, slice_index, replicate};
-ghost use Rattle.cm_isa.specs.Registers.{IsRegisters, put};
+ghost use Rattle.cm_isa.specs.Register.{IsRegisters, put};
 
 use std::marker::Model;
 

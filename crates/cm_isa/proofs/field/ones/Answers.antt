@@ -1,7 +1,7 @@
 use Rattle.std.proofs.Common.{◌≡◌, ◌-◌, ◌^◌, ◌≤◌, arith, ap}
 use Rattle.std.proofs.lemmas.Nat.Bits.{ones_shr}
 use Rattle.std.proofs.lemmas.Nat.{pow_pos}
-use Rattle.cm_isa.proofs.fields.ones.Goals as goal
+use Rattle.cm_isa.proofs.field.ones.Goals as goal
 
 pub returns : goal.returns
 returns c =

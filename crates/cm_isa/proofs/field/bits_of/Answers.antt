@@ -1,6 +1,6 @@
 use Rattle.std.proofs.Common.{◌≡◌, ◌+◌, ◌-◌, ◌/◌, ◌%◌, ◌^◌, ℕ, arith, bit_and}
 use Rattle.std.proofs.lemmas.Nat.{and_mask, pow_pos}
-use Rattle.cm_isa.proofs.fields.bits_of.Goals as goal
+use Rattle.cm_isa.proofs.field.bits_of.Goals as goal
 
 -- a mask of the lowest bits takes the remainder
 masked : (n m k : ℕ) → m + 1 ≡ 2 ^ k → bit_and n m ≡ n % 2 ^ k
