@@ -278,12 +278,6 @@ module _ (view : View) (map : IsMap view) (rs : List ℕ) (pc : ℕ) (i : Operat
       let same = same_by_words view map pc asks m.counter goes.0 in
       (same.same_next ∙ goes.0, made m.counter same ∙ goes.1)
 
-  -- and touches what is allowed
-  pub access_by_machine : (m : Machine) → machine_after i before ≡ Some m → MayAccess view asks
-  access_by_machine m e =
-      let change = word_change view map pc asks in
-      access_by_words view map pc asks m.counter (next_is change.next change.result i.rd change.write before m e).0
-
   -- an outcome that goes on is a step of the machine
   pub machine_by_outcome : (address : ℕ) → MayAccess view asks → (outcome view i rs pc).next ≡ At address
       → machine_after i before ≡ Some (machine_of (outcome view i rs pc).memory (outcome view i rs pc).registers address)
@@ -292,3 +286,11 @@ module _ (view : View) (map : IsMap view) (rs : List ℕ) (pc : ℕ) (i : Operat
       let same = same_by_view view map pc asks address may e in
       let next : change.next ≡ At address = sym same.same_next ∙ e in
       ap (λ (n : Next). next_machine n change.result i.rd change.write before) next ∙ ap Some (sym (made address same))
+
+-- a step of the machine touches what is allowed
+pub access_by_machine : (view : View) → IsMap view → (rs : List ℕ) (pc : ℕ) (i : Operation) (m : Machine) → machine_after i (machine_of view rs pc) ≡ Some m
+    → MayAccess view (action_at i (slice_index rs) pc)
+access_by_machine view map rs pc i m e =
+    let asks = action_at i (slice_index rs) pc in
+    let change = word_change view map pc asks in
+    access_by_words view map pc asks m.counter (next_is change.next change.result i.rd change.write (machine_of view rs pc) m e).0
