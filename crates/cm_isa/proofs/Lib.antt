@@ -2,3 +2,4 @@
 pub mod Word
 pub mod Machine
 pub mod Run
+pub mod Image

@@ -4,8 +4,6 @@ use Rattle.std.proofs.lemmas.Bool.Decides.{eqb_tells}
 use Rattle.std.proofs.lemmas.Option.{none-some, same_Some}
 use Rattle.std.specs.Prelude.{Bool, true, false, ◌==◌, if◌then◌else◌, ◌⊎◌, is_some}
 use Rattle.cm_isa.specs.Operation.{Operation, ecall}
-use Rattle.cm_isa.specs.Format.{Row}
-use Rattle.cm_isa.specs.Address.{InstructionAt}
 use Rattle.cm_isa.specs.Register.{with_result}
 use Rattle.cm_isa.specs.Action.{Size, Action, Sets, Passes, Goes, Links, Loads, Stores, Serves, Breaks, follow, action_at}
 use Rattle.cm_isa.specs.Effect.{Change, goes_on, stops, load_change, store_change, action_change, is_aligned, stored_word}
@@ -217,13 +215,3 @@ larger_has_more small large extends = λ i a. at a i
 
     at : (a : ℕ) → with_more small large a ≡ large a
     at a = by_word a (small a) refl
-
--- ---- images
-
--- a word is in one row at most
-pub one_row : (w : ℕ) (i j : Operation) → Row w i → Row w j → i ≡ j
-one_row w i j first second = grind arith
-
--- an image has one instruction at each address at most
-pub image_is_one : (image : List ℕ) → IsOne (InstructionAt image)
-image_is_one image address i j first second = one_row _ i j first.2 second.2

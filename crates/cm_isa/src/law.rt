@@ -3,12 +3,14 @@
 ghost use Rattle.std.specs.Prelude.{◌≡◌, ℕ, ◌<◌, List, ◌++◌, length, slice_index, Option, Some, is_some};
 ghost use Rattle.cm_isa.specs.Action.{action_at};
 ghost use Rattle.cm_isa.specs.Address.{InstructionAt};
-ghost use Rattle.cm_isa.specs.Effect.{MayAccess};
+ghost use Rattle.cm_isa.specs.Effect.{MayAccess, outcome};
 ghost use Rattle.cm_isa.specs.Format.{Row};
 ghost use Rattle.cm_isa.specs.Machine.{IsMap, Machine, Mapped, machine_after, machine_of};
 ghost use Rattle.cm_isa.specs.Operation.{Operation};
 ghost use Rattle.cm_isa.specs.Run.{Extends, Label, Runs, machine_with_more, replies, with_more};
 ghost use Rattle.cm_isa.specs.View.{View};
+
+use crate::execution::Next;
 
 /// A word is in the row of at most one instruction: to decode the word of an instruction gives this
 /// instruction back.
@@ -53,9 +55,20 @@ pub fn runs_keep_more_words()
         is_some (last.words address) ≡ is_some (m.words address) }
 {}
 
-/// Where the machine of a view does an instruction, the instruction touches only what the view allows.
-pub fn machines_touch_what_is_allowed()
-    ensures { (view : View) (rs : List ℕ) (pc : ℕ) (i : Operation) (m : Machine) → IsMap view →
+/// The machine of a view does an instruction exactly where the outcome goes on and touches what the view
+/// allows, and then it is the machine of the outcome.
+pub fn machines_do_what_outcomes_say()
+    ensures step { (view : View) (rs : List ℕ) (pc : ℕ) (i : Operation) (m : Machine) → IsMap view →
+        i.rd < length rs → machine_after i (machine_of view rs pc) ≡ Some m →
+        let after = outcome view i rs pc in
+        (after.next ≡ Next.At m.counter) ×
+        (machine_of after.memory after.registers m.counter ≡ m) }
+    ensures outcome { (view : View) (rs : List ℕ) (pc address : ℕ) (i : Operation) → IsMap view →
+        i.rd < length rs → MayAccess view (action_at i (slice_index rs) pc) →
+        let after = outcome view i rs pc in
+        after.next ≡ Next.At address →
+        machine_after i (machine_of view rs pc) ≡ Some (machine_of after.memory after.registers address) }
+    ensures allowed { (view : View) (rs : List ℕ) (pc : ℕ) (i : Operation) (m : Machine) → IsMap view →
         machine_after i (machine_of view rs pc) ≡ Some m →
         MayAccess view (action_at i (slice_index rs) pc) }
 {}

@@ -19,7 +19,7 @@ pub use execution::{Action, FaultKind, Next, Size, effect};
 pub use instruction::Instr;
 pub use kind::{Format, Kind};
 pub use law::{
-    machines_touch_what_is_allowed, one_instruction_per_word, one_word_per_instruction,
+    machines_do_what_outcomes_say, one_instruction_per_word, one_word_per_instruction,
     replies_determine_runs, runs_join_and_split, runs_keep_more_words,
 };
 pub use memory::{Shown, Words};

@@ -2,6 +2,7 @@
 ghost use Rattle.std.specs.Prelude.{◌≡◌, ◌<◌, slice_index, replicate};
 ghost use Rattle.cm_isa.specs.Register.{IsRegisters, put};
 
+use std::alloc::AllocError;
 use std::marker::Model;
 
 /// The 32 registers, of which x0 reads 0 (RISC-V Unprivileged ISA, RV32I 2.1). Contracts see them
@@ -19,6 +20,19 @@ impl Model for Regs {
     ghost view = { λ regs. regs.words };
 
     ghost invariant = { λ regs. slice_index regs.words 0 ≡ 0 };
+}
+
+impl Clone for Regs {
+    ghost use Rattle.std.specs.Prelude.{◌≡◌, ⊤};
+
+    ghost is_clone = { λ regs copy. copy ≡ regs };
+
+    ghost is_infallible = { λ _. ⊤ };
+
+    /// The same registers, as a child has at first. It always succeeds.
+    fn clone(&self) -> Result<Regs, AllocError> {
+        Ok(Regs { words: self.words })
+    }
 }
 
 impl Regs {
