@@ -1,22 +1,25 @@
 -- What the answer of a step tells of the instruction that gave it, and of the step of its machine.
-use Rattle.std.proofs.Common.{◌≡◌, ◌≢◌, ◌↔◌, ℕ, ◌%◌, List, length, Some, refl, sym, ap, subst, ◌∙◌, inl, inr}
+use Rattle.std.proofs.Common.{◌≡◌, ◌≢◌, ◌↔◌, ℕ, ◌%◌, ◌<◌, List, length, Some, arith, refl, sym, ap, subst, ◌∙◌, inl, inr}
 use Rattle.std.proofs.lemmas.Bool.Decides.{eqb_tells}
 use Rattle.std.specs.Prelude.{ℤ, Bool, true, false, ◌==◌, if◌then◌else◌, ◌⊎◌, slice_index}
 use Rattle.cm_isa.specs.Operation.{Operation, ecall}
 use Rattle.cm_isa.specs.Format.{Row, form_of, operation_at}
 use Rattle.cm_isa.specs.Address.{InstructionAt}
-use Rattle.cm_isa.specs.Register.{IsRegisters}
+use Rattle.cm_isa.specs.Register.{IsRegisters, put}
 use Rattle.cm_isa.specs.View.{View}
-use Rattle.cm_isa.specs.Action.{Size, Action, Sets, Passes, Goes, Links, Loads, Stores, Serves, Breaks, kind_action, branch, action_at}
+use Rattle.cm_isa.specs.declared.execution.Size.{Size}
+use Rattle.cm_isa.specs.declared.execution.Action.{Action}
+use Rattle.cm_isa.specs.declared.execution.Action.TheVariants.{Sets, Passes, Goes, Links, Loads, Stores, Serves, Breaks}
+use Rattle.cm_isa.specs.Action.{kind_action, branch, action_at, follow}
 use Rattle.cm_isa.specs.Effect.{Cell, word_in, no_page, nothing, Change, Outcome, goes_on, stops, load_change, store_change, action_change, cell_at, outcome, is_aligned, MayAccess}
 use Rattle.cm_isa.specs.Machine.{Machine, StepsTo, IsMap, machine_of, machine_after}
-use Rattle.cm_isa.specs.Run.{Label, silent, call, LabelledStep}
+use Rattle.cm_isa.specs.Run.{Label, silent, call, replied_machine, LabelledStep}
 use Rattle.cm_isa.specs.declared.kind.Kind.{Kind}
 use Rattle.cm_isa.specs.declared.kind.Kind.TheVariants as kinds
 use Rattle.cm_isa.specs.declared.execution.FaultKind.TheVariants as faults
 use Rattle.cm_isa.specs.declared.execution.Next.{Next}
 use Rattle.cm_isa.specs.declared.execution.Next.TheVariants as next
-use Rattle.cm_isa.proofs.Machine.{access_by_machine, machine_by_outcome, outcome_by_machine}
+use Rattle.cm_isa.proofs.Machine.{access_by_machine, length-put, machine_by_outcome, outcome_by_machine, put_result_register, same_machine}
 use Rattle.cm_isa.proofs.Image.{image_is_one, rd_below}
 use Rattle.cm_hart.specs.declared.hart.Hart.{Hart}
 use Rattle.cm_hart.specs.declared.hart.Halt.{Halt}
@@ -138,8 +141,8 @@ module _ (image : List ℕ) (view : View) (i : Operation) (hart : Hart) (answer 
   outcome_machine address e =
       let pc : address ≡ new.pc = ap (λ (n : Next). pc_after n hart.pc) (sym e) ∙ ap (λ (h : Hart). h.pc) (sym answers.leaves.hart_is) in
       ap (λ (after : View). machine_of after (hart_outcome view i hart).registers address) (sym answers.leaves.memory_is)
-          ∙ ap (λ (h : Hart). machine_of memory h.regs address) (sym answers.leaves.hart_is)
-          ∙ ap (machine_of memory new.regs) pc
+      ∙ ap (λ (h : Hart). machine_of memory h.regs address) (sym answers.leaves.hart_is)
+      ∙ ap (machine_of memory new.regs) pc
 
   -- the machine takes this step exactly where the answer is Going
   pub machine_answers : IsRegisters hart.regs → MayAccess view (action_at i (slice_index hart.regs) hart.pc) → IsMap view → (m : Machine)
@@ -174,3 +177,10 @@ may_step view image hart silent m map step = λ i there.
     access_by_machine view map hart.regs hart.pc i m (ap (λ (j : Operation). machine_after j (hart_machine view hart)) (sym same) ∙ step.effect)
 may_step view image hart (call c) m map step = λ i there.
     subst (λ (j : Operation). MayAccess view (action_at j (slice_index hart.regs) hart.pc)) (image_is_one image hart.pc ecall i step.0 there) tt
+
+-- the machine of a hart that got a reply
+pub reply_machine : (view : View) (hart : Hart) (value : ℕ) (regs : List ℕ) → regs ≡ put hart.regs 5 value → IsRegisters regs
+    → hart_machine view (record { regs = regs; pc = follow hart.pc }) ≡ replied_machine (hart_machine view hart) (Some value)
+reply_machine view hart value regs is shape =
+    let within : 5 < length hart.regs = omega (arith, shape.count, ap length is, length-put hart.regs 5 value) in
+    same_machine _ _ (ap slice_index is ∙ put_result_register hart.regs 5 (Some value) within) refl refl

@@ -17,11 +17,11 @@ impl Words for Memory {
     ghost use Rattle.cm_isa.specs.declared.memory.Shown.TheVariants.{Place, Page, Outside};
 
     ghost view = { λ m. record {
-        shown = λ a. if nat_lt a 256 then Outside
-            else (if nat_lt a 272 then Place ((a - 256) / 4)
-            else (if nat_lt a 288 then Page else Outside));
-        allowed = λ p. nat_lt p 4;
-        word_at = slice_index m.words;
+      shown = λ a. if nat_lt a 256 then Outside
+          else (if nat_lt a 272 then Place ((a - 256) / 4)
+          else (if nat_lt a 288 then Page else Outside));
+      allowed = λ p. nat_lt p 4;
+      word_at = slice_index m.words;
     } };
 
     ghost Rest = { ℕ };

@@ -1,5 +1,5 @@
 -- The machine of registers in a list and words in places takes the step that the outcome of the instruction says, and no other.
-use Rattle.std.proofs.Common.{◌≡◌, ◌≢◌, ℕ, ◌-◌, ◌%◌, ◌<◌, List, length, Option, None, Some, refl, sym, ap, ◌∙◌, subst, arith, inl, inr, eq-eqb}
+use Rattle.std.proofs.Common.{◌≡◌, ◌≢◌, ℕ, ◌-◌, ◌%◌, ◌<◌, List, length, Option, None, Some, refl, sym, ap, ◌∙◌, subst, arith, inl, inr, eq-eqb, length-set}
 use Rattle.std.proofs.lemmas.Bool.Decides.{eqb_tells}
 use Rattle.std.proofs.lemmas.List.{get_or-set_same, get_or-set_other}
 use Rattle.std.proofs.lemmas.Option.{none-some, same_Some}
@@ -39,6 +39,10 @@ put_register rs rd v within q = elim (rd == 0) as (λ z. slice_index (if z then 
 pub put_result_register : (rs : List ℕ) (rd : ℕ) (result : Option ℕ) → rd < length rs → slice_index (put_result rs rd result) ≡ with_result (slice_index rs) rd result
 put_result_register rs rd (Some v) within = λ i q. put_register rs rd v within q i
 put_result_register rs rd None within = refl
+
+-- a list in which a register was put is as long as before
+pub length-put : (rs : List ℕ) (rd v : ℕ) → length (put rs rd v) ≡ length rs
+length-put rs rd v = elim (rd == 0) as (λ z. length (if z then rs else slice_set rs rd v) ≡ length rs) [ true ↦ refl | false ↦ length-set rs rd v ]
 
 -- ---- words
 

@@ -55,7 +55,8 @@ impl Regs {
     /// A register takes a word; x0 stays 0.
     pub fn set(&mut self, index: u8, word: u32)
         requires { index < 32 }
-        ensures { self.new ≡ put self.old index word }
+        ensures value { self.new ≡ put self.old index word }
+        ensures shape { IsRegisters self.new }
     {
         if index != 0 {
             self.words[index as usize] = word;
