@@ -7,6 +7,7 @@ use Rattle.cm_isa.specs.Machine.{Machine, machine_of}
 use Rattle.cm_isa.specs.Operation.{Operation}
 use Rattle.cm_isa.specs.Register.{put_result}
 use Rattle.cm_isa.specs.View.{View}
+use Rattle.cm_isa.specs.declared.convention.TheConstants as reg
 use Rattle.cm_isa.specs.declared.execution.Next.{Next}
 use Rattle.cm_isa.specs.declared.execution.Next.TheVariants as next
 use Rattle.cm_hart.specs.declared.hart.Hart.{Hart}
@@ -37,7 +38,7 @@ hart_outcome view i hart = outcome view i hart.regs hart.pc
 
 -- the answer, the hart and the memory are those of the outcome of an instruction of this hart
 pub record HasHartOutcome (after : Outcome) (hart : Hart) (answer : Halt) (new : Hart) (memory : View) : Type 0 where
-  pub halt_is : answer ≡ halt_of after.next (slice_index hart.regs 31)
+  pub halt_is : answer ≡ halt_of after.next (slice_index hart.regs reg.SERVICE)
   pub hart_is : new ≡ hart_after after hart.pc
   pub memory_is : memory ≡ after.memory
 
@@ -51,4 +52,4 @@ hart_machine view hart = machine_of view hart.regs hart.pc
 
 -- the hart after the reply to an `ecall`: x5 takes the word, if there is one, and the next instruction follows
 abbrev pub replied_hart : Hart → (reply : Option ℕ) → Hart
-replied_hart hart reply = record { regs = put_result hart.regs 5 reply; pc = follow hart.pc }
+replied_hart hart reply = record { regs = put_result hart.regs reg.VALUE reply; pc = follow hart.pc }

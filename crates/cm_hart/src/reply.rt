@@ -7,6 +7,7 @@ ghost use Rattle.cm_isa.specs.View.{View};
 ghost use Rattle.cm_hart.specs.Step.{hart_machine, replied_hart};
 
 use crate::hart::Hart;
+use cm_isa::convention::VALUE;
 
 impl Hart {
     /// Replies to the `ecall` at the pc: x5 takes the word, if there is one, and the instruction after the
@@ -19,7 +20,7 @@ impl Hart {
             LabelledStep (InstructionAt image) (call (call_of asks word)) asks (hart_machine view self.new) }
     {
         if let Some(value) = word {
-            self.regs.set(5, value);
+            self.regs.set(VALUE, value);
         }
         self.pc = self.pc.wrapping_add(4);
     }

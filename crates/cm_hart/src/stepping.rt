@@ -12,6 +12,7 @@ ghost use Rattle.cm_hart.specs.Step.{HasHartOutcome, MayStep, hart_machine, hart
 
 use crate::hart::{Halt, Hart};
 use cm_asm::Image;
+use cm_isa::convention::SERVICE;
 use cm_isa::{FaultKind, Instr, Next, Shown, Words, decode, effect};
 
 /// The instruction at pc, or why there is none: Jump where pc is no address of the image, else Word.
@@ -49,7 +50,7 @@ fn execute<W: Words>(instr: Instr, hart: &mut Hart, words: &mut W) -> Halt
             hart.pc = address;
             Halt::Going
         }
-        Next::Service => Halt::Service(hart.regs.get(31)),
+        Next::Service => Halt::Service(hart.regs.get(SERVICE)),
         Next::PageFault { address } => Halt::PageFault { address },
         Next::Fault { kind, address } => Halt::Fault { kind, address },
     }
@@ -81,7 +82,7 @@ pub fn step<W: Words>(hart: &mut Hart, image: &Image, words: &mut W) -> Halt
         (i : Operation) × InstructionAt image.now.words hart.old.pc i ×
         ((hart_outcome (W.view words.old) i hart.old).next ≡ Next.At hart.new.pc) }
     ensures service { (n : ℕ) → (result ≡ Halt.Service n) ↔
-        ((n ≡ slice_index hart.old.regs 31) × InstructionAt image.now.words hart.old.pc ecall) }
+        ((n ≡ slice_index hart.old.regs SERVICE) × InstructionAt image.now.words hart.old.pc ecall) }
     ensures halts { result ≢ Halt.Going →
         (hart.new ≡ hart.old) × (W.view words.new ≡ W.view words.old) }
     ensures target { (a : ℕ) → IsCodeAddress image.now.words hart.old.pc →

@@ -21,6 +21,10 @@ pub record Machine : Type 0 where
   pub counter : ℕ
   pub words : Mapped
 
+-- a machine with these registers at this address, and with the words as they were
+abbrev pub machine_with : Machine → (ℕ → ℕ) → (counter : ℕ) → Machine
+machine_with m registers counter = record { registers = registers; counter = counter; words = m.words }
+
 -- the word at an address is this one, and every other word is as it was
 abbrev pub with_word : Mapped → (address word : ℕ) → Mapped
 with_word words address word a = if a == address then Some word else words a

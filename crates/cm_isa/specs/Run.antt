@@ -3,7 +3,8 @@ use Rattle.std.specs.Prelude.{◌≡◌, ℕ, zero, suc, List, [], ◌∷◌, Op
 use Rattle.cm_isa.specs.Register.{with_result}
 use Rattle.cm_isa.specs.Action.{follow}
 use Rattle.cm_isa.specs.Operation.{ecall}
-use Rattle.cm_isa.specs.Machine.{Mapped, Machine, Code, StepsTo}
+use Rattle.cm_isa.specs.Machine.{Mapped, Machine, Code, StepsTo, machine_with}
+use Rattle.cm_isa.specs.declared.convention.TheConstants as reg
 
 -- a call of the environment: the number of the service, in x31, its arguments, in x5 and x6, and the word of the reply, if it has one
 pub record Call : Type 0 where
@@ -14,11 +15,11 @@ pub record Call : Type 0 where
 
 -- the call that a machine at an `ecall` makes, where this is the reply
 abbrev pub call_of : Machine → (reply : Option ℕ) → Call
-call_of m reply = record { service = m.registers 31; first = m.registers 5; second = m.registers 6; reply = reply }
+call_of m reply = record { service = m.registers reg.SERVICE; first = m.registers reg.VALUE; second = m.registers reg.LEFT; reply = reply }
 
 -- the machine after the call: x5 takes the word of the reply, if there is one, and the instruction after the `ecall` is next
 abbrev pub replied_machine : Machine → (reply : Option ℕ) → Machine
-replied_machine m reply = record { registers = with_result m.registers 5 reply; counter = follow m.counter; words = m.words }
+replied_machine m reply = machine_with m (with_result m.registers reg.VALUE reply) (follow m.counter)
 
 -- what a step shows: nothing, or a call
 pub data Label : Type 0 where
@@ -54,7 +55,7 @@ replies (call c ∷ labels) = c.reply ∷ replies labels
 pub record StopsAt (code : Code) (labels : List Label) (m last : Machine) (service : ℕ) : Type 0 where
   pub runs : Runs code labels m last
   pub asks : code last.counter ecall
-  pub number : last.registers 31 ≡ service
+  pub number : last.registers reg.SERVICE ≡ service
 
 -- ---- further words
 

@@ -4,6 +4,7 @@
 
 mod arithmetic;
 mod coding;
+pub mod convention;
 mod execution;
 mod field;
 mod instruction;
