@@ -1,7 +1,9 @@
--- The code of an expression leaves the expression's value in register 5.
+-- The code of an expression leaves the expression's value in x5.
+use Rattle.cm_isa.specs.declared.convention.TheConstants as reg
 use Rattle.std.proofs.Common.{◌≡◌, ◌≢◌, ℕ, ◌+◌, ◌-◌, ◌*◌, ◌%◌, ◌^◌, ◌<◌, ◌≤◌, List, [], ◌∷◌, ◌++◌, length, Option, None, Some, refl, sym, ap, ◌∙◌, subst, arith, rules, length-append, eq-eqb}
 use Rattle.std.proofs.lemmas.Bool.{ne_eqb}
 use Rattle.std.proofs.lemmas.Int.{ints}
+use Rattle.std.proofs.lemmas.Option.{none-some}
 use Rattle.std.specs.Prelude.{true, false, ◌==◌, if◌then◌else◌, ℤ, pos, neg_ℤ, ◌+ℤ◌, FitsSigned, IsSome, option_and_then}
 use Rattle.std.specs.Int.{w32, cast_unsigned}
 use Rattle.cm_isa.specs.Operation.{Operation}
@@ -14,12 +16,13 @@ use Rattle.cm_syntax.specs.Shape.{Joined}
 use Rattle.cm_syntax.specs.Expr.{value_of, IsClosed}
 use Rattle.cm_syntax.specs.Frame.{temporaries}
 use Rattle.cm_syntax.specs.Word.{combined}
-use Rattle.cm_gen.specs.Machine.{Machine, Code, ComesTo, StandsAt, with_word}
+use Rattle.cm_isa.specs.Machine.{Machine, Code, InstructionsAt, with_word}
+use Rattle.cm_isa.specs.Run.{ComesTo}
 use Rattle.cm_gen.specs.Code.{load_slot, store_slot, operate, evaluate, temporary}
-use Rattle.cm_gen.proofs.WordLemmas as words
-use Rattle.cm_gen.proofs.Steps.{comes_on, stands_front, stands_back}
-use Rattle.cm_gen.proofs.Trees.{temporaries-Joined}
-use Rattle.cm_gen.proofs.PatternLaws.{Sets, Puts, load_number_runs, store_slot_runs, load_slot_runs, operate_runs}
+use Rattle.cm_gen.proofs.WordLaw as words
+use Rattle.cm_gen.proofs.Step.{comes_on, stands_front, stands_back}
+use Rattle.cm_gen.proofs.Tree.{temporaries-Joined}
+use Rattle.cm_gen.proofs.PatternLaw.{Sets, Puts, load_number_runs, store_slot_runs, load_slot_runs, operate_runs}
 
 -- ---- values
 
@@ -29,14 +32,8 @@ same_value a b e = cc
 -- an operation has a value only where both operands have one
 both_some : (f : ℤ → ℤ → Option ℤ) (x y : Option ℤ) (v : ℤ) → option_and_then (λ a. option_and_then (λ b. f a b) y) x ≡ Some v
     → (a : ℤ) × (b : ℤ) × (x ≡ Some a) × (y ≡ Some b) × (f a b ≡ Some v)
-both_some f None y v e = absurd (none_some v e)
-  where
-    none_some : (v : ℤ) → None ≡ Some v → ⊥
-    none_some v e = cc
-both_some f (Some a) None v e = absurd (none_some v e)
-  where
-    none_some : (v : ℤ) → None ≡ Some v → ⊥
-    none_some v e = cc
+both_some f None y v e = absurd (none-some v e)
+both_some f (Some a) None v e = absurd (none-some v e)
 both_some f (Some a) (Some b) v e = (a, b, refl, refl, e)
 
 combined_fits : (op : Op) (a b v : ℤ) → combined op a b ≡ Some v → FitsSigned w32 v
@@ -52,10 +49,7 @@ combined_fits Sub a b v e = subst (FitsSigned w32) (same _ v e) (words.wrapped_f
   where
     same : (x v : ℤ) → Some x ≡ Some v → x ≡ v
     same x v e = cc
-combined_fits _ a b v e = absurd (none_some v e)
-  where
-    none_some : (v : ℤ) → None ≡ Some v → ⊥
-    none_some v e = cc
+combined_fits _ a b v e = absurd (none-some v e)
 
 -- the value of an expression is a word
 pub value_fits : (e : Expr ℕ) (v : ℤ) → IsClosed e → value_of e ≡ Some v → FitsSigned w32 v
@@ -82,7 +76,7 @@ pub record HasRoom (frame slots limit : ℕ) : Type 0 where
 
 -- the temporaries from d on are mapped
 abbrev pub AreMapped : (m : Machine) → (slots d limit : ℕ) → Type 0
-AreMapped m slots d limit = (j : ℕ) → d ≤ j → j < limit → IsSome (m.words (temporary_address (m.registers 8) slots j))
+AreMapped m slots d limit = (j : ℕ) → d ≤ j → j < limit → IsSome (m.words (temporary_address (m.registers reg.FP) slots j))
 
 temporary_place : (frame slots limit j : ℕ) → HasRoom frame slots limit → j < limit → offset frame (temporary slots j) ≡ temporary_address frame slots j
 temporary_place frame slots limit j room h = words.offset_down frame (4 * (3 + slots + j)) (omega (arith, room.below)) room.word (temporary slots j) (minus frame (4 * (3 + slots + j)) (omega (arith, room.below)))
@@ -119,25 +113,25 @@ with_word_mapped w a v x h = elim (x == a) as (λ b. IsSome (if b then Some v el
 
 -- ---- the law
 
--- the machine t is at the place `bytes` further, register 5 has the value v, registers 5, 6 and 7 and the temporaries
+-- the machine t is at the place `bytes` further, x5 has the value v, x5, x6, x7 and the temporaries
 -- from d on may have changed, and all else is as in m
 pub record Evaluated (slots d limit : ℕ) (v : ℤ) (bytes : ℕ) (m t : Machine) : Type 0 where
   pub counter : t.counter ≡ m.counter + bytes
-  pub value : t.registers 5 ≡ cast_unsigned w32 v
-  pub kept : (q : ℕ) → (q == 5) ≡ false → (q == 6) ≡ false → (q == 7) ≡ false → t.registers q ≡ m.registers q
-  pub words : (a : ℕ) → ((j : ℕ) → d ≤ j → j < limit → a ≢ temporary_address (m.registers 8) slots j) → t.words a ≡ m.words a
+  pub value : t.registers reg.VALUE ≡ cast_unsigned w32 v
+  pub kept : (q : ℕ) → (q == reg.VALUE) ≡ false → (q == reg.LEFT) ≡ false → (q == reg.HELP) ≡ false → t.registers q ≡ m.registers q
+  pub words : (a : ℕ) → ((j : ℕ) → d ≤ j → j < limit → a ≢ temporary_address (m.registers reg.FP) slots j) → t.words a ≡ m.words a
   pub mapped : (a : ℕ) → IsSome (m.words a) → IsSome (t.words a)
 
 module _ (code : Code) where
   -- what the parts of an operation do one after another: the left operand, its word kept at an address, the right operand,
   -- the kept word brought back, and the operator
   joined_parts : (op : Op) (first keep second bring : List Operation) (slots d limit f : ℕ) (a b v : ℤ) (m t1 t2 t3 t4 t5 : Machine)
-      → m.registers 8 ≡ f → HasRoom f slots limit → d < limit
+      → m.registers reg.FP ≡ f → HasRoom f slots limit → d < limit
       → ComesTo code (length first) m t1 → Evaluated slots d limit a (4 * length first) m t1
-      → ComesTo code (length keep) t1 t2 → Puts (temporary_address f slots d) (t1.registers 5) (4 * length keep) t1 t2
+      → ComesTo code (length keep) t1 t2 → Puts (temporary_address f slots d) (t1.registers reg.VALUE) (4 * length keep) t1 t2
       → ComesTo code (length second) t2 t3 → Evaluated slots (d + 1) limit b (4 * length second) t2 t3
-      → ComesTo code (length bring) t3 t4 → Sets 6 (t1.registers 5) (4 * length bring) t3 t4
-      → ComesTo code 1 t4 t5 → Sets 5 (cast_unsigned w32 v) 4 t4 t5
+      → ComesTo code (length bring) t3 t4 → Sets reg.LEFT (t1.registers reg.VALUE) (4 * length bring) t3 t4
+      → ComesTo code 1 t4 t5 → Sets reg.VALUE (cast_unsigned w32 v) 4 t4 t5
       → (whole : List Operation) → length whole ≡ length first + (length keep + (length second + (length bring + 1)))
       → ComesTo code (length whole) m t5 × Evaluated slots d limit v (4 * length whole) m t5
   joined_parts op first keep second bring slots d limit f a b v m t1 t2 t3 t4 t5 frame room within c1 e1 c2 e2 c3 e3 c4 e4 c5 e5 whole size = (
@@ -157,37 +151,37 @@ module _ (code : Code) where
       at : ℕ
       at = temporary_address f slots d
 
-      frame2 : t2.registers 8 ≡ f
-      frame2 = e2.kept 8 refl ∙ e1.kept 8 refl refl refl ∙ frame
+      frame2 : t2.registers reg.FP ≡ f
+      frame2 = e2.kept reg.FP refl ∙ e1.kept reg.FP refl refl refl ∙ frame
 
-      same_word : (x : ℕ) → ((j : ℕ) → d ≤ j → j < limit → x ≢ temporary_address (m.registers 8) slots j) → t5.words x ≡ m.words x
+      same_word : (x : ℕ) → ((j : ℕ) → d ≤ j → j < limit → x ≢ temporary_address (m.registers reg.FP) slots j) → t5.words x ≡ m.words x
       same_word x apart =
-          let apart3 : (j : ℕ) → d + 1 ≤ j → j < limit → x ≢ temporary_address (t2.registers 8) slots j =
+          let apart3 : (j : ℕ) → d + 1 ≤ j → j < limit → x ≢ temporary_address (t2.registers reg.FP) slots j =
           λ j low high e. apart j (omega (arith, low)) high (e ∙ ap (λ g. temporary_address g slots j) (frame2 ∙ sym frame)) in
           let away : x ≢ at = λ e. apart d (omega arith) within (e ∙ ap (λ g. temporary_address g slots d) (sym frame)) in
-          ap (λ w. w x) e5.words ∙ ap (λ w. w x) e4.words ∙ e3.words x apart3 ∙ ap (λ w. w x) e2.words ∙ with_word_other t1.words at (t1.registers 5) x away ∙ e1.words x apart
+          ap (λ w. w x) e5.words ∙ ap (λ w. w x) e4.words ∙ e3.words x apart3 ∙ ap (λ w. w x) e2.words ∙ with_word_other t1.words at (t1.registers reg.VALUE) x away ∙ e1.words x apart
 
       still : (x : ℕ) → IsSome (m.words x) → IsSome (t5.words x)
       still x h =
           let one = e1.mapped x h in
-          let two = subst (λ (w : ℕ → Option ℕ). IsSome (w x)) (sym e2.words) (with_word_mapped t1.words at (t1.registers 5) x one) in
+          let two = subst (λ (w : ℕ → Option ℕ). IsSome (w x)) (sym e2.words) (with_word_mapped t1.words at (t1.registers reg.VALUE) x one) in
           let three = e3.mapped x two in
           let four = subst (λ (w : ℕ → Option ℕ). IsSome (w x)) (sym e4.words) three in
           subst (λ (w : ℕ → Option ℕ). IsSome (w x)) (sym e5.words) four
 
   -- a word is kept at an address near the frame pointer f, and brought back from there, by code of two patterns
   abbrev Keeps : (keep : List Operation) (f at : ℕ) → Type 0
-  Keeps keep f at = (n : Machine) (old : ℕ) → n.registers 8 ≡ f → n.words at ≡ Some old → n.counter + 12 < 2 ^ 32 → StandsAt code n.counter keep
-      → (t : Machine) × ComesTo code (length keep) n t × Puts at (n.registers 5) (4 * length keep) n t
+  Keeps keep f at = (n : Machine) (old : ℕ) → n.registers reg.FP ≡ f → n.words at ≡ Some old → n.counter + 12 < 2 ^ 32 → InstructionsAt code n.counter keep
+      → (t : Machine) × ComesTo code (length keep) n t × Puts at (n.registers reg.VALUE) (4 * length keep) n t
 
   abbrev Brings : (bring : List Operation) (f at : ℕ) → Type 0
-  Brings bring f at = (n : Machine) (w : ℕ) → n.registers 8 ≡ f → n.words at ≡ Some w → n.counter + 12 < 2 ^ 32 → StandsAt code n.counter bring
-      → (t : Machine) × ComesTo code (length bring) n t × Sets 6 w (4 * length bring) n t
+  Brings bring f at = (n : Machine) (w : ℕ) → n.registers reg.FP ≡ f → n.words at ≡ Some w → n.counter + 12 < 2 ^ 32 → InstructionsAt code n.counter bring
+      → (t : Machine) × ComesTo code (length bring) n t × Sets reg.LEFT w (4 * length bring) n t
 
   -- what the code of an operand does from wherever it stands
   abbrev Gives : (part : List Operation) (slots d limit f : ℕ) (a : ℤ) → Type 0
-  Gives part slots d limit f a = (n : Machine) → n.registers 0 ≡ 0 → n.registers 8 ≡ f → AreMapped n slots d limit → n.counter + 4 * length part + 12 < 2 ^ 32
-      → StandsAt code n.counter part → (t : Machine) × ComesTo code (length part) n t × Evaluated slots d limit a (4 * length part) n t
+  Gives part slots d limit f a = (n : Machine) → n.registers reg.ZERO ≡ 0 → n.registers reg.FP ≡ f → AreMapped n slots d limit → n.counter + 4 * length part + 12 < 2 ^ 32
+      → InstructionsAt code n.counter part → (t : Machine) × ComesTo code (length part) n t × Evaluated slots d limit a (4 * length part) n t
 
   joined_runs : (op : Op) (first keep second bring : List Operation) (slots d limit f : ℕ) (a b v : ℤ)
       → FitsSigned w32 a → FitsSigned w32 b → combined op a b ≡ Some v → HasRoom f slots limit → d < limit
@@ -217,62 +211,62 @@ module _ (code : Code) where
           → length (keep ++ (second ++ (bring ++ operate op ∷ []))) ≡ length keep + length (second ++ (bring ++ operate op ∷ []))
           → length (second ++ (bring ++ operate op ∷ [])) ≡ length second + length (bring ++ operate op ∷ [])
           → length (bring ++ operate op ∷ []) ≡ length bring + 1
-          → StandsAt code (m.counter + 4 * length first) (keep ++ (second ++ (bring ++ operate op ∷ [])))
+          → InstructionsAt code (m.counter + 4 * length first) (keep ++ (second ++ (bring ++ operate op ∷ [])))
           → (t : Machine) × ComesTo code (length whole) m t × Evaluated slots d limit v (4 * length whole) m t
       two t1 e1 c1 size size2 size3 size4 r1 =
-          let stands1 = subst (λ p. StandsAt code p (keep ++ (second ++ (bring ++ operate op ∷ [])))) (sym e1.counter) r1 in
+          let stands1 = subst (λ p. InstructionsAt code p (keep ++ (second ++ (bring ++ operate op ∷ [])))) (sym e1.counter) r1 in
           let s2 = stands_front code t1.counter keep (second ++ (bring ++ operate op ∷ [])) stands1 in
           let r2 = stands_back code t1.counter keep (second ++ (bring ++ operate op ∷ [])) stands1 in
-          let f1 : t1.registers 8 ≡ f = e1.kept 8 refl refl refl ∙ frame in
+          let f1 : t1.registers reg.FP ≡ f = e1.kept reg.FP refl refl refl ∙ frame in
           let there = some_of (t1.words at) (e1.mapped at (subst (λ g. IsSome (m.words (temporary_address g slots d))) frame (mapped d (omega arith) within))) in
           let keeps = kept t1 there.0 f1 there.1 (omega (arith, bound, size, e1.counter)) s2 in
           let t2 = keeps.0 in
           let e2 = keeps.2 in
-          let stands2 = subst (λ p. StandsAt code p (second ++ (bring ++ operate op ∷ []))) (sym e2.counter) r2 in
+          let stands2 = subst (λ p. InstructionsAt code p (second ++ (bring ++ operate op ∷ []))) (sym e2.counter) r2 in
           let s3 = stands_front code t2.counter second (bring ++ operate op ∷ []) stands2 in
           let r3 = stands_back code t2.counter second (bring ++ operate op ∷ []) stands2 in
-          let f2 : t2.registers 8 ≡ f = e2.kept 8 refl ∙ f1 in
-          let zero2 : t2.registers 0 ≡ 0 = e2.kept 0 refl ∙ e1.kept 0 refl refl refl ∙ zero_is in
+          let f2 : t2.registers reg.FP ≡ f = e2.kept reg.FP refl ∙ f1 in
+          let zero2 : t2.registers reg.ZERO ≡ 0 = e2.kept reg.ZERO refl ∙ e1.kept reg.ZERO refl refl refl ∙ zero_is in
           let mapped2 : AreMapped t2 slots (d + 1) limit = λ j low high.
-          subst (λ (w : ℕ → Option ℕ). IsSome (w (temporary_address (t2.registers 8) slots j))) (sym e2.words)
-          (with_word_mapped t1.words at (t1.registers 5) (temporary_address (t2.registers 8) slots j)
-          (e1.mapped (temporary_address (t2.registers 8) slots j)
+          subst (λ (w : ℕ → Option ℕ). IsSome (w (temporary_address (t2.registers reg.FP) slots j))) (sym e2.words)
+          (with_word_mapped t1.words at (t1.registers reg.VALUE) (temporary_address (t2.registers reg.FP) slots j)
+          (e1.mapped (temporary_address (t2.registers reg.FP) slots j)
           (subst (λ g. IsSome (m.words (temporary_address g slots j))) (frame ∙ sym f2) (mapped j (omega (arith, low)) high)))) in
           let rights = right t2 zero2 f2 mapped2 (omega (arith, bound, size, e1.counter, e2.counter)) s3 in
           let t3 = rights.0 in
           let e3 = rights.2 in
-          three t1 t2 t3 e1 e2 e3 c1 keeps.1 rights.1 size size4 f2 (subst (λ p. StandsAt code p (bring ++ operate op ∷ [])) (sym e3.counter) r3)
+          three t1 t2 t3 e1 e2 e3 c1 keeps.1 rights.1 size size4 f2 (subst (λ p. InstructionsAt code p (bring ++ operate op ∷ [])) (sym e3.counter) r3)
         where
-          three : (t1 t2 t3 : Machine) → Evaluated slots d limit a (4 * length first) m t1 → Puts at (t1.registers 5) (4 * length keep) t1 t2 → Evaluated slots (d + 1) limit b (4 * length second) t2 t3
+          three : (t1 t2 t3 : Machine) → Evaluated slots d limit a (4 * length first) m t1 → Puts at (t1.registers reg.VALUE) (4 * length keep) t1 t2 → Evaluated slots (d + 1) limit b (4 * length second) t2 t3
               → ComesTo code (length first) m t1 → ComesTo code (length keep) t1 t2 → ComesTo code (length second) t2 t3
               → length whole ≡ length first + (length keep + (length second + (length bring + 1))) → length (bring ++ operate op ∷ []) ≡ length bring + 1
-              → t2.registers 8 ≡ f → StandsAt code t3.counter (bring ++ operate op ∷ [])
+              → t2.registers reg.FP ≡ f → InstructionsAt code t3.counter (bring ++ operate op ∷ [])
               → (t : Machine) × ComesTo code (length whole) m t × Evaluated slots d limit v (4 * length whole) m t
           three t1 t2 t3 e1 e2 e3 c1 c2 c3 size size4 f2 stands3 =
               let s4 = stands_front code t3.counter bring (operate op ∷ []) stands3 in
               let r4 = stands_back code t3.counter bring (operate op ∷ []) stands3 in
-              let f3 : t3.registers 8 ≡ f = e3.kept 8 refl refl refl ∙ f2 in
-              let apart : (j : ℕ) → d + 1 ≤ j → j < limit → at ≢ temporary_address (t2.registers 8) slots j =
+              let f3 : t3.registers reg.FP ≡ f = e3.kept reg.FP refl refl refl ∙ f2 in
+              let apart : (j : ℕ) → d + 1 ≤ j → j < limit → at ≢ temporary_address (t2.registers reg.FP) slots j =
               λ j low high e. temporary_apart f slots limit d j room within high (omega (arith, low)) (e ∙ ap (λ g. temporary_address g slots j) f2) in
-              let here : t3.words at ≡ Some (t1.registers 5) = e3.words at apart ∙ ap (λ w. w at) e2.words ∙ with_word_same t1.words at (t1.registers 5) in
-              let brings = brought t3 (t1.registers 5) f3 here (omega (arith, bound, size, e1.counter, e2.counter, e3.counter)) s4 in
+              let here : t3.words at ≡ Some (t1.registers reg.VALUE) = e3.words at apart ∙ ap (λ w. w at) e2.words ∙ with_word_same t1.words at (t1.registers reg.VALUE) in
+              let brings = brought t3 (t1.registers reg.VALUE) f3 here (omega (arith, bound, size, e1.counter, e2.counter, e3.counter)) s4 in
               let t4 = brings.0 in
               let e4 = brings.2 in
-              let six : t4.registers 6 ≡ cast_unsigned w32 a = e4.value ∙ e1.value in
-              let five : t4.registers 5 ≡ cast_unsigned w32 b = e4.kept 5 refl ∙ e3.value in
+              let six : t4.registers reg.LEFT ≡ cast_unsigned w32 a = e4.value ∙ e1.value in
+              let five : t4.registers reg.VALUE ≡ cast_unsigned w32 b = e4.kept reg.VALUE refl ∙ e3.value in
               let s5 = subst (λ p. code p (operate op)) (sym e4.counter) r4.0 in
               let last = operate_runs code op a b v t4 fits_a fits_b means six five (omega (arith, bound, size, e1.counter, e2.counter, e3.counter, e4.counter)) s5 in
               let done = joined_parts op first keep second bring slots d limit f a b v m t1 t2 t3 t4 last.0 frame room within c1 e1 c2 e2 c3 e3 brings.1 e4 last.1 last.2 whole size in
               (last.0, done.0, done.1)
 
-  keeps_slot : (slots d limit f : ℕ) → HasRoom f slots limit → d < limit → Keeps (store_slot 5 (temporary slots d)) f (temporary_address f slots d)
+  keeps_slot : (slots d limit f : ℕ) → HasRoom f slots limit → d < limit → Keeps (store_slot reg.VALUE (temporary slots d)) f (temporary_address f slots d)
   keeps_slot slots d limit f room within n old frame there bound stands =
-      store_slot_runs code 5 (temporary slots d) (temporary_address f slots d) old n refl (subst (λ g. g < 2 ^ 32) (sym frame) room.word)
+      store_slot_runs code reg.VALUE (temporary slots d) (temporary_address f slots d) old n refl (subst (λ g. g < 2 ^ 32) (sym frame) room.word)
       (ap (λ g. offset g (temporary slots d)) frame ∙ temporary_place f slots limit d room within) (temporary_aligned f slots limit d room within) there bound stands
 
-  brings_slot : (slots d limit f : ℕ) → HasRoom f slots limit → d < limit → Brings (load_slot 6 (temporary slots d)) f (temporary_address f slots d)
+  brings_slot : (slots d limit f : ℕ) → HasRoom f slots limit → d < limit → Brings (load_slot reg.LEFT (temporary slots d)) f (temporary_address f slots d)
   brings_slot slots d limit f room within n w frame there bound stands =
-      load_slot_runs code 6 (temporary slots d) (temporary_address f slots d) w n refl refl (subst (λ g. g < 2 ^ 32) (sym frame) room.word)
+      load_slot_runs code reg.LEFT (temporary slots d) (temporary_address f slots d) w n refl refl (subst (λ g. g < 2 ^ 32) (sym frame) room.word)
       (ap (λ g. offset g (temporary slots d)) frame ∙ temporary_place f slots limit d room within) (temporary_aligned f slots limit d room within) there bound stands
 
   -- the code of an expression gives its value
@@ -280,7 +274,7 @@ module _ (code : Code) where
       → Gives (evaluate slots e d) slots d limit f v
   evaluate_runs slots (Number n) d limit f v closed means enough room = λ m zero_is frame mapped bound stands.
       let same : n ≡ v = same_value n v means in
-      let set = load_number_runs code 5 n m refl zero_is closed.0 (omega arith) stands in (
+      let set = load_number_runs code reg.VALUE n m refl zero_is closed.0 (omega arith) stands in (
         set.0,
         set.1,
         record {
@@ -295,7 +289,7 @@ module _ (code : Code) where
       let parts = both_some (combined op) (value_of left) (value_of right) v means in
       let few = subst (λ n. n ≤ limit) (temporaries-Joined op left right d closed.1) enough in
       let within : d < limit = omega arith in
-      joined_runs op (evaluate slots left d) (store_slot 5 (temporary slots d)) (evaluate slots right (d + 1)) (load_slot 6 (temporary slots d)) slots d limit f parts.0 parts.1 v
+      joined_runs op (evaluate slots left d) (store_slot reg.VALUE (temporary slots d)) (evaluate slots right (d + 1)) (load_slot reg.LEFT (temporary slots d)) slots d limit f parts.0 parts.1 v
       (value_fits left parts.0 closed.0 parts.2) (value_fits right parts.1 closed.2 parts.3) parts.4 room within
       (evaluate_runs slots left d limit f parts.0 closed.0 parts.2 (omega arith) room)
       (keeps_slot slots d limit f room within)

@@ -2,7 +2,7 @@
 ghost use Rattle.std.specs.Prelude.{◌≡◌, ◌<◌, ◌%◌, unsigned_abs};
 ghost use Rattle.cm_isa.specs.Bits.{IsSigned};
 ghost use Rattle.cm_isa.specs.Operation as instruction;
-ghost use Rattle.cm_gen.specs.Operations as code;
+ghost use Rattle.cm_gen.specs.Assembler as code;
 
 use cm_isa::{Instr, Kind};
 

@@ -4,7 +4,7 @@ use Rattle.std.proofs.Common.{◌∙◌, ap}
 use Rattle.cm_syntax.specs.Word.{wrapped}
 use Rattle.std.specs.Prelude.{◌-ℤ◌}
 use Rattle.cm_gen.specs.Code.{low_part}
-use Rattle.cm_gen.proofs.patterns.high_part.Goals as goal
+use Rattle.cm_gen.proofs.pattern.high_part.Goals as goal
 
 pub returns-clause-value : goal.returns-clause-value
 returns-clause-value c =

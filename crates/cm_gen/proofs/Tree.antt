@@ -1,4 +1,5 @@
 -- What the definitions say of an expression, by its shape and as the code matches on it.
+use Rattle.cm_isa.specs.declared.convention.TheConstants as reg
 use Rattle.std.proofs.Common.{◌≡◌, ℕ, ◌+◌, max, ◌∷◌, [], ◌++◌, refl, ap, ◌∙◌, subst}
 use Rattle.std.specs.Prelude.{true, false}
 use Rattle.cm_syntax.specs.declared.expr.Op.{Op}
@@ -37,5 +38,5 @@ temporaries-Binary e op left right d is plain = ap (λ x. temporaries x d) (is �
 
 -- the code of an operation, by its parts
 pub evaluate-Binary : (e : Expr ℕ) (op : Op) (left right : Expr ℕ) (d : ℕ) → e ≡ Binary op left right
-    → evaluate 0 e d ≡ evaluate 0 left d ++ (store_slot 5 (temporary 0 d) ++ (evaluate 0 right (d + 1) ++ (load_slot 6 (temporary 0 d) ++ operate op ∷ [])))
+    → evaluate 0 e d ≡ evaluate 0 left d ++ (store_slot reg.VALUE (temporary 0 d) ++ (evaluate 0 right (d + 1) ++ (load_slot reg.LEFT (temporary 0 d) ++ operate op ∷ [])))
 evaluate-Binary e op left right d is = ap (λ x. evaluate 0 x d) (is ∙ Binary-Joined op left right)

@@ -3,15 +3,13 @@
 
 ghost use Rattle.std.specs.Prelude.{◌≡◌, ◌+◌, ◌*◌, ◌<◌, ◌≤◌, ◌%◌, ◌^◌, [], ◌∷◌, ◌++◌, IsTrue, OnOk, ℤ, pos, unsigned_abs};
 ghost use Rattle.cm_isa.specs.Bits.{IsSigned};
-ghost use Rattle.cm_gen.specs.Operations as operation;
+ghost use Rattle.cm_gen.specs.Assembler as operation;
 ghost use Rattle.cm_gen.specs.Code as pattern;
 
-use crate::instructions::{add, addi, bgeu, bne, ecall, jalr, lui, lw, sub, sw};
+use crate::instruction::{add, addi, bgeu, bne, ecall, jalr, lui, lw, sub, sw};
 use cm_isa::Instr;
+use cm_isa::convention::{ACCOUNT, FP, HELP, RA, RESULT, SERVICE, SP, TICKS, VALUE, ZERO};
 use cm_text::{List, Memory};
-
-/// The frame pointer.
-pub(crate) const FRAME: u8 = 8;
 
 /// Whether a number fits an immediate of 12 bits.
 fn is_near(number: i32) -> bool
@@ -52,7 +50,7 @@ pub(crate) fn load_number(code: &mut List<Instr>, register: u8, number: i32) -> 
     ensures { OnOk result (code.new ≡ code.old ++ pattern.load_number register number) }
 {
     if is_near(number) {
-        code.push(addi(register, 0, number))?;
+        code.push(addi(register, ZERO, number))?;
     } else {
         load_high(code, register, number)?;
         code.push(addi(register, register, low_part(number)))?;
@@ -66,10 +64,10 @@ pub(crate) fn load_slot(code: &mut List<Instr>, register: u8, offset: i32) -> Re
     ensures { OnOk result (code.new ≡ code.old ++ pattern.load_slot register offset) }
 {
     if is_near(offset) {
-        code.push(lw(register, FRAME, offset))?;
+        code.push(lw(register, FP, offset))?;
     } else {
         load_high(code, register, offset)?;
-        code.push(add(register, register, FRAME))?;
+        code.push(add(register, register, FP))?;
         code.push(lw(register, register, low_part(offset)))?;
     }
     Ok(())
@@ -81,11 +79,11 @@ pub(crate) fn store_slot(code: &mut List<Instr>, register: u8, offset: i32) -> R
     ensures { OnOk result (code.new ≡ code.old ++ pattern.store_slot register offset) }
 {
     if is_near(offset) {
-        code.push(sw(register, FRAME, offset))?;
+        code.push(sw(register, FP, offset))?;
     } else {
-        load_high(code, 7, offset)?;
-        code.push(add(7, 7, FRAME))?;
-        code.push(sw(register, 7, low_part(offset)))?;
+        load_high(code, HELP, offset)?;
+        code.push(add(HELP, HELP, FP))?;
+        code.push(sw(register, HELP, low_part(offset)))?;
     }
     Ok(())
 }
@@ -95,7 +93,7 @@ pub(crate) fn service(code: &mut List<Instr>, number: i32) -> Result<(), Memory>
     requires { IsSigned 12 number }
     ensures { OnOk result (code.new ≡ code.old ++ pattern.service number) }
 {
-    code.push(addi(31, 0, number))?;
+    code.push(addi(SERVICE, ZERO, number))?;
     code.push(ecall())?;
     Ok(())
 }
@@ -104,9 +102,9 @@ pub(crate) fn service(code: &mut List<Instr>, number: i32) -> Result<(), Memory>
 fn tick(code: &mut List<Instr>) -> Result<(), Memory>
     ensures { OnOk result (code.new ≡ code.old ++ pattern.tick) }
 {
-    code.push(bne(4, 0, 12))?;
+    code.push(bne(TICKS, ZERO, 12))?;
     service(code, 6)?;
-    code.push(addi(4, 4, -1))?;
+    code.push(addi(TICKS, TICKS, -1))?;
     Ok(())
 }
 
@@ -115,10 +113,10 @@ fn take_account(code: &mut List<Instr>, need: u32) -> Result<(), Memory>
     requires { need < 2 ^ 31 }
     ensures { OnOk result (code.new ≡ code.old ++ pattern.take_account need) }
 {
-    load_number(code, 7, need as i32)?;
-    code.push(bgeu(3, 7, 12))?;
+    load_number(code, HELP, need as i32)?;
+    code.push(bgeu(ACCOUNT, HELP, 12))?;
     service(code, 9)?;
-    code.push(sub(3, 3, 7))?;
+    code.push(sub(ACCOUNT, ACCOUNT, HELP))?;
     Ok(())
 }
 
@@ -127,13 +125,13 @@ fn make_frame(code: &mut List<Instr>, bytes: u32) -> Result<(), Memory>
     requires { bytes < 2 ^ 31 }
     ensures { OnOk result (code.new ≡ code.old ++ pattern.make_frame bytes) }
 {
-    load_number(code, 7, bytes as i32)?;
-    code.push(sub(2, 2, 7))?;
-    code.push(sw(0, 2, 0))?;
-    code.push(add(7, 2, 7))?;
-    code.push(sw(1, 7, -4))?;
-    code.push(sw(8, 7, -8))?;
-    code.push(addi(8, 7, 0))?;
+    load_number(code, HELP, bytes as i32)?;
+    code.push(sub(SP, SP, HELP))?;
+    code.push(sw(ZERO, SP, 0))?;
+    code.push(add(HELP, SP, HELP))?;
+    code.push(sw(RA, HELP, -4))?;
+    code.push(sw(FP, HELP, -8))?;
+    code.push(addi(FP, HELP, 0))?;
     Ok(())
 }
 
@@ -154,12 +152,12 @@ pub(crate) fn leave(code: &mut List<Instr>, need: u32) -> Result<(), Memory>
     requires { need < 2 ^ 31 }
     ensures { OnOk result (code.new ≡ code.old ++ pattern.leave need) }
 {
-    load_number(code, 7, need as i32)?;
-    code.push(add(3, 3, 7))?;
-    code.push(addi(10, 5, 0))?;
-    code.push(lw(1, 8, -4))?;
-    code.push(addi(2, 8, 0))?;
-    code.push(lw(8, 8, -8))?;
-    code.push(jalr(0, 1, 0))?;
+    load_number(code, HELP, need as i32)?;
+    code.push(add(ACCOUNT, ACCOUNT, HELP))?;
+    code.push(addi(RESULT, VALUE, 0))?;
+    code.push(lw(RA, FP, -4))?;
+    code.push(addi(SP, FP, 0))?;
+    code.push(lw(FP, FP, -8))?;
+    code.push(jalr(ZERO, RA, 0))?;
     Ok(())
 }

@@ -1,7 +1,7 @@
 -- The instructions of the code patterns, by the names of the assembler.
 use Rattle.std.specs.Prelude.{ℕ, ℤ, pos}
 use Rattle.cm_isa.specs.Operation.{Operation}
-use Rattle.cm_isa.specs.declared.kinds.Kind.TheVariants as kinds
+use Rattle.cm_isa.specs.declared.kind.Kind.TheVariants as kinds
 
 abbrev pub lui : (rd : ℕ) → (imm : ℤ) → Operation
 lui rd imm = record { kind = kinds.Lui; rd = rd; rs1 = 0; rs2 = 0; imm = imm }
