@@ -1,6 +1,6 @@
 -- A run that came to its end, and the expression that it was a run of.
 use Rattle.std.specs.Prelude.{◌≡◌, ℕ, ℤ, List, Some}
-use Rattle.cm_isa.specs.Places.{AreWordsOf}
+use Rattle.cm_isa.specs.Address.{AreWordsOf}
 use Rattle.cm_syntax.specs.declared.expr.Expr.{Expr}
 use Rattle.cm_syntax.specs.Expr.{value_of}
 use Rattle.cm_gen.specs.Code.{first_code}

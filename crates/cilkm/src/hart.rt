@@ -1,7 +1,7 @@
 //! The stack, and a run of an image on one hart from its start to the end service.
-ghost use Rattle.std.specs.Prelude.{◌≡◌, ℕ, ◌<◌, ◌≤◌, ◌^◌, ℤ, List, length, nat_lt, slice_index, IfOk};
+ghost use Rattle.std.specs.Prelude.{◌≡◌, ℕ, ◌<◌, ◌≤◌, ◌^◌, ℤ, List, length, IfOk};
 ghost use Rattle.cm_gen.specs.Run.{Ends};
-ghost use Rattle.cilkm.specs.Stack.{stack_shown, start_machine, first_registers};
+ghost use Rattle.cilkm.specs.Stack.{start_machine, first_registers};
 
 use cm_asm::Image;
 use cm_hart::{Halt, Hart, step};
@@ -16,7 +16,7 @@ const STACK_TOP: u32 = 0x4000_0000;
 /// The words of the stack: 64 pages of 4,096 bytes.
 const STACK_WORDS: usize = 65536;
 
-/// The place of main's word in the table of functions.
+/// The address of main's word in the table of functions.
 const TABLE_START: u32 = 8;
 
 /// The number of the service that ends a run.
@@ -49,11 +49,14 @@ impl Stack {
 }
 
 impl Words for Stack {
-    ghost shown = { λ stack. stack_shown (length stack) };
+    ghost use Rattle.std.specs.Prelude.{ℕ, length};
+    ghost use Rattle.cilkm.specs.Stack.{stack_view};
 
-    ghost allowed = { λ stack place. nat_lt place (length stack) };
+    ghost view = { λ stack. stack_view stack };
 
-    ghost word_at = { λ stack. slice_index stack };
+    ghost Rest = { ℕ };
+
+    ghost rest = { λ stack. length stack };
 
     fn show(&self, address: u32) -> Shown {
         let low = STACK_TOP - 4 * self.words.len() as u32;

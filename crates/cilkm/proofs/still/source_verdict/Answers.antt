@@ -1,5 +1,5 @@
 use Rattle.std.proofs.Common.{ℕ, List, Some, sym, ap, ◌∙◌, subst}
-use Rattle.cm_isa.specs.Places.{AreWordsOf}
+use Rattle.cm_isa.specs.Address.{AreWordsOf}
 use Rattle.cm_gen.specs.Code.{first_code}
 use Rattle.cilkm.specs.Run.{IsRunOf}
 use Rattle.cilkm.proofs.StillLaws.{runs_from_start}
