@@ -1,6 +1,7 @@
 #!/usr/bin/env bash
 # Tries the launcher `cilkm`. Most cases run a copy of it, in a folder of their own, over a stand-in for rt that proves
-# nothing; the last ones run the launcher itself and the proved program, as `rt ci` or an earlier start has left it.
+# nothing; the last ones run the launcher itself and the proved program, which `rt ci` or an earlier start has left.
+# (Else it is proved and built first.)
 # One line a case; the last line is 'N passed, M failed', and the status is 0 where M is 0.
 set -u
 
