@@ -8,6 +8,7 @@ pub mod RefusalLaws
 pub mod Lexing
 pub mod ProgramLaws
 pub mod SourceRows
+mod MachineRows
 pub mod NameRows
 pub mod SoundLaws
 pub mod BoundLaws
