@@ -9,6 +9,7 @@ pub mod Lexing
 pub mod ProgramLaws
 pub mod SourceRows
 mod MachineRows
+pub mod Machine
 pub mod NameRows
 pub mod SoundLaws
 pub mod BoundLaws

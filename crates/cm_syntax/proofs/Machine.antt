@@ -1,0 +1,4 @@
+-- What the machine does with the tokens of each parse tree, and what follows from it for the grammar.
+pub mod Trace
+pub mod Front
+pub mod ExpressionTrace
