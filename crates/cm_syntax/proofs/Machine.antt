@@ -2,3 +2,4 @@
 pub mod Trace
 pub mod Front
 pub mod ExpressionTrace
+pub mod StatementTrace

@@ -343,3 +343,7 @@ call_leads (grammar.Call.alone f opening closing) k rest = one refl none
 call_leads (grammar.Call.with_ f opening arguments closing) k rest =
     let then_called : List (Arg Name) → State = λ found. k (record { function = f; arguments = found }) in
     firsts_lead arguments then_called (sign_at sign.ParenClose closing) rest _ (arguments_lead arguments [] then_called closing rest)
+
+pub named_call_leads : (made : grammar.Call) (k : Call Name → State) (rest : List LocatedToken) → Leads (call k) (call_tokens made) rest (k (lower_call made))
+named_call_leads (grammar.Call.alone f opening closing) k rest = one refl (one refl (call_leads (grammar.Call.alone f opening closing) k rest))
+named_call_leads (grammar.Call.with_ f opening arguments closing) k rest = one refl (one refl (call_leads (grammar.Call.with_ f opening arguments closing) k rest))

@@ -1,5 +1,5 @@
 -- The tokens that parts of the grammar begin with.
-use Rattle.std.proofs.Common.{◌≡◌, ℕ, ◌+◌, Bool, true, false, not, ◌&&◌, List, [], ◌∷◌, ◌++◌, refl, sym, ap, ◌∙◌, Option, None, Some}
+use Rattle.std.proofs.Common.{◌≡◌, ℕ, ◌+◌, Bool, true, false, not, ◌&&◌, List, [], ◌∷◌, ◌++◌, refl, sym, ap, ◌∙◌, Option, None, Some, append_assoc}
 use Rattle.std.proofs.lemmas.Bool.{true≢false, false≢true}
 use Rattle.cm_syntax.specs.declared.expr.Op.{Op}
 use Rattle.cm_syntax.specs.declared.expr.Op.TheVariants as op
@@ -9,9 +9,9 @@ use Rattle.cm_syntax.specs.declared.token.Sign.{Sign}
 use Rattle.cm_syntax.specs.declared.token.Sign.TheVariants as sign
 use Rattle.cm_syntax.specs.Text.{keyword_text, sign_text}
 use Rattle.cm_syntax.specs.Token.{Token, LocatedToken}
-use Rattle.cm_syntax.specs.ParseTree.{is_unary, Expression, AnyExpression, Simple, Plain}
+use Rattle.cm_syntax.specs.ParseTree.{is_unary, Expression, AnyExpression, Simple, Plain, Statements, Offset}
 use Rattle.cm_syntax.specs.ParseTree as grammar
-use Rattle.cm_syntax.specs.Yield.{Quantity, CountedToken, counted_token, operators, sign_of, operators_of, expression_tokens, any_tokens, target_tokens, simple_tokens, plain_tokens, located_tokens}
+use Rattle.cm_syntax.specs.Yield.{Quantity, CountedToken, counted_token, operators, sign_of, operators_of, expression_tokens, any_tokens, target_tokens, simple_tokens, plain_tokens, statements_tokens, sign_at, located_tokens}
 use Rattle.cm_syntax.specs.Machine.{State, step, is_sign, is_word}
 use Rattle.cm_syntax.proofs.Spelling.{keyword_written, keyword_written-text, sign_written, sign_written-text, is_same-equal}
 use Rattle.cm_syntax.proofs.Machine.Trace.{trace, next_trace, regroup, Leads, alike}
@@ -62,7 +62,7 @@ begins_with test [] = false
 begins_with test (t ∷ tokens) = test t.token
 
 -- two states that do the same with the first token
-trace_alike : (s other : State) (test : Token → Bool) (tokens : List LocatedToken) → begins_with test tokens ≡ true →
+pub trace_alike : (s other : State) (test : Token → Bool) (tokens : List LocatedToken) → begins_with test tokens ≡ true →
     ((t : LocatedToken) → test t.token ≡ true → step s t.token t.at ≡ step other t.token t.at) → trace s tokens ≡ trace other tokens
 trace_alike s other test [] h e = absurd (false≢true h)
 trace_alike s other test (t ∷ tokens) h e = ap (λ x. next_trace x t.at (λ next. trace next tokens)) (e t h)
@@ -136,12 +136,12 @@ simple_begins (Simple.call (grammar.Call.with_ f opening arguments closing)) fir
 
 -- a token that a statement of a block may begin with where it is no declaration
 abbrev pub begins_plain : Token → Bool
-begins_plain token = not (is_sign sign.BraceClose token) && not (is_word keyword.Int token)
+begins_plain token = not (is_sign sign.BraceClose token) && (not (is_word keyword.Int token) && not (is_word keyword.Else token))
 
 simple_plain : (tokens : List LocatedToken) → begins_with begins_simple tokens ≡ true → begins_with begins_plain tokens ≡ true
 simple_plain [] h = h
 simple_plain (t ∷ tokens) h =
-    rw (other_sign begins_simple sign.BraceClose t.token refl h, other_word begins_simple keyword.Int t.token refl h) refl
+    rw (other_sign begins_simple sign.BraceClose t.token refl h, other_word begins_simple keyword.Int t.token refl h, other_word begins_simple keyword.Else t.token refl h) refl
 
 pub plain_begins : {is_open : Bool} (p : Plain is_open) (d inner : ℕ) (rest : List LocatedToken) → begins_with begins_plain (located_tokens (plain_tokens d inner p) ++ rest) ≡ true
 plain_begins (Plain.simple s semicolon) d inner rest =
@@ -158,3 +158,22 @@ plain_begins (Plain.print word opening value closing semicolon) d inner rest = r
 plain_begins (Plain.sync word semicolon) d inner rest = refl
 plain_begins (Plain.spawn word call semicolon) d inner rest = refl
 plain_begins (Plain.spawn_into x assign word call semicolon) d inner rest = refl
+
+-- any token but `else`
+abbrev pub no_else : Token → Bool
+no_else token = not (is_word keyword.Else token)
+
+plain_no_else : (tokens : List LocatedToken) → begins_with begins_plain tokens ≡ true → begins_with no_else tokens ≡ true
+plain_no_else [] h = h
+plain_no_else (t ∷ tokens) h = rw (other_word begins_plain keyword.Else t.token refl h) refl
+
+-- the statements of a block begin with no `else`, nor does its closing brace
+pub statements_no_else : (all : Statements) (d : ℕ) (closing : Offset) (rest : List LocatedToken) →
+    begins_with no_else (located_tokens (statements_tokens d all ++ sign_at sign.BraceClose closing ∷ []) ++ rest) ≡ true
+statements_no_else Statements.none d closing rest = refl
+statements_no_else (Statements.declare declaration semicolon more) d closing rest = refl
+statements_no_else (Statements.plain first more) d closing rest =
+    rw (
+      append_assoc (plain_tokens d (d + 1) first) (statements_tokens d more) (sign_at sign.BraceClose closing ∷ []),
+      regroup (plain_tokens d (d + 1) first) (statements_tokens d more ++ sign_at sign.BraceClose closing ∷ []) rest,
+    ) (plain_no_else _ (plain_begins first d (d + 1) _))
