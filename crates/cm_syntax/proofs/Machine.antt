@@ -3,3 +3,4 @@ pub mod Trace
 pub mod Front
 pub mod ExpressionTrace
 pub mod StatementTrace
+pub mod ProgramTrace
