@@ -4,3 +4,4 @@ pub mod Front
 pub mod ExpressionTrace
 pub mod StatementTrace
 pub mod ProgramTrace
+pub mod OneTree
