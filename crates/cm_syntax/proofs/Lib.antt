@@ -14,9 +14,6 @@ pub mod NameRows
 pub mod SoundLaws
 pub mod BoundLaws
 pub mod AnswerLaws
-pub mod Reading
-pub mod OneTree
-pub mod OneProgram
 pub mod OneAnswer
 pub mod NameLaws
 pub mod CountLaws

@@ -15,12 +15,12 @@ use Rattle.cm_syntax.specs.declared.token.Sign.TheVariants as sign
 use Rattle.cm_syntax.specs.Token.{Token, LocatedToken}
 use Rattle.cm_syntax.specs.ParseTree.{Mark, Offset, is_unary, level_of, Expression, AnyExpression, Arguments, Argument}
 use Rattle.cm_syntax.specs.ParseTree as grammar
-use Rattle.cm_syntax.specs.Yield.{CountedToken, counted_token, operators, sign_at, sign_of, operators_of, expression_tokens, any_tokens, call_tokens, arguments_tokens, argument_tokens, located_tokens}
+use Rattle.cm_syntax.specs.Yield.{CountedToken, operators, sign_at, sign_of, operators_of, expression_tokens, any_tokens, call_tokens, arguments_tokens, argument_tokens}
 use Rattle.cm_syntax.specs.Lowering.{lower_expression, lower_any, lower_call, lower_arguments, lower_argument}
 use Rattle.cm_syntax.specs.Refusal.{is_opening}
-use Rattle.cm_syntax.specs.Machine.{State, goes, step, whole, value, call, call_of, operator_of, operator_step, operand_step, prefix_step, argument_step, is_sign}
+use Rattle.cm_syntax.specs.Machine.{State, goes, step, whole, value, call, call_of, operator_of, operator_step, operand_step, prefix_step}
 use Rattle.cm_syntax.proofs.Machine.Trace.{Leads, regroup, none, one, both, passes, left}
-use Rattle.cm_syntax.proofs.Machine.Front.{begins_value, begins_with, other_sign, by_front, expression_begins}
+use Rattle.cm_syntax.proofs.Machine.Front.{begins_value, other_sign, by_front, expression_begins}
 
 -- ---- operators
 

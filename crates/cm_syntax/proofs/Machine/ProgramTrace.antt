@@ -1,5 +1,5 @@
 -- The machine takes the tokens of each function and program with their counts, and ends with its tree.
-use Rattle.std.proofs.Common.{◌≡◌, ℕ, Bool, true, false, if◌then◌else◌, List, [], ◌∷◌, ◌++◌, refl, sym, ap, ◌∙◌, subst, Option, None, Some, append_assoc, is_some}
+use Rattle.std.proofs.Common.{◌≡◌, Bool, true, false, if◌then◌else◌, List, [], ◌∷◌, ◌++◌, refl, sym, subst, Option, None, Some, append_assoc, is_some}
 use Rattle.cm_syntax.specs.declared.name.Name.{Name}
 use Rattle.cm_syntax.specs.declared.stmt.Item.{Item}
 use Rattle.cm_syntax.specs.declared.stmt.Stmt.{Stmt}
@@ -9,10 +9,10 @@ use Rattle.cm_syntax.specs.declared.token.Sign.TheVariants as sign
 use Rattle.cm_syntax.specs.Token.{Token, LocatedToken}
 use Rattle.cm_syntax.specs.ParseTree.{Offset, Parameter, ParameterList, Parameters}
 use Rattle.cm_syntax.specs.ParseTree as grammar
-use Rattle.cm_syntax.specs.Yield.{CountedToken, word_at, sign_at, name_at, statements_tokens, parameter_tokens, parameter_list_tokens, parameters_tokens, cilk_tokens, function_tokens, program_tokens, located_tokens}
+use Rattle.cm_syntax.specs.Yield.{CountedToken, word_at, sign_at, name_at, statements_tokens, parameter_tokens, parameter_list_tokens, parameters_tokens, cilk_tokens, function_tokens, program_tokens}
 use Rattle.cm_syntax.specs.Lowering.{lower_statements, lower_parameter, lower_parameter_list, lower_parameters, lower_function, lower_program}
-use Rattle.cm_syntax.specs.Machine.{State, goes, on, step, parameter, function_of, function_step, is_sign}
-use Rattle.cm_syntax.proofs.Machine.Trace.{Leads, none, one, both, passes, regroup}
+use Rattle.cm_syntax.specs.Machine.{State, on, step, parameter, function_of, function_step, is_sign}
+use Rattle.cm_syntax.proofs.Machine.Trace.{Leads, none, one, both, passes}
 use Rattle.cm_syntax.proofs.Machine.StatementTrace.{statements_lead}
 
 -- ---- functions

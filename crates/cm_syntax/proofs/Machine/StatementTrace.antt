@@ -1,5 +1,5 @@
 -- The machine takes the tokens of each declaration and statement with their counts, and goes on with its tree.
-use Rattle.std.proofs.Common.{◌≡◌, ℕ, ◌+◌, Bool, true, false, List, [], ◌∷◌, ◌++◌, refl, sym, ap, ◌∙◌, subst, Option, None, Some, append_assoc, append-nil}
+use Rattle.std.proofs.Common.{◌≡◌, ℕ, ◌+◌, Bool, true, false, List, [], ◌∷◌, ◌++◌, refl, sym, ap, subst, Option, None, Some, append_assoc, append-nil}
 use Rattle.std.proofs.lemmas.Bool.{false≢true}
 use Rattle.cm_syntax.specs.declared.name.Name.{Name}
 use Rattle.cm_syntax.specs.declared.expr.Op.{Op}
@@ -15,10 +15,10 @@ use Rattle.cm_syntax.specs.declared.token.Sign.TheVariants as sign
 use Rattle.cm_syntax.specs.Token.{Token, LocatedToken}
 use Rattle.cm_syntax.specs.ParseTree.{Mark, Offset, is_update, AnyExpression, Declaration, Simple, FirstPart, Plain, Statements}
 use Rattle.cm_syntax.specs.ParseTree as grammar
-use Rattle.cm_syntax.specs.Yield.{Quantity, CountedToken, depth, word_at, sign_at, update_sign, any_tokens, optional_tokens, call_tokens, item_tokens, items_tokens, declaration_tokens, target_tokens, simple_call_tokens, simple_tokens, first_part_tokens, last_part_tokens, plain_tokens, statements_tokens, located_tokens}
-use Rattle.cm_syntax.specs.Lowering.{lower_any, lower_optional, lower_call, lower_item, lower_items, lower_declaration, lower_target, lower_simple, lower_first_part, lower_last_part, lower_plain, lower_statements}
-use Rattle.cm_syntax.specs.Machine.{State, goes, step, value, index, call, call_of, declarator, declaration, with_semicolon, spawned, parenthesized, body, update_operator, writing_step, is_sign, is_word}
-use Rattle.cm_syntax.proofs.Machine.Trace.{Leads, trace, next_trace, took, regroup, none, one, both, passes, left, alike}
+use Rattle.cm_syntax.specs.Yield.{Quantity, CountedToken, depth, sign_at, update_sign, any_tokens, optional_tokens, call_tokens, item_tokens, items_tokens, declaration_tokens, target_tokens, simple_tokens, first_part_tokens, last_part_tokens, plain_tokens, statements_tokens, located_tokens}
+use Rattle.cm_syntax.specs.Lowering.{lower_optional, lower_call, lower_item, lower_items, lower_declaration, lower_target, lower_simple, lower_first_part, lower_last_part, lower_plain, lower_statements}
+use Rattle.cm_syntax.specs.Machine.{State, goes, step, value, declarator, declaration, with_semicolon, spawned, writing_step, is_sign}
+use Rattle.cm_syntax.proofs.Machine.Trace.{Leads, trace, took, regroup, none, one, both, passes, left, alike}
 use Rattle.cm_syntax.proofs.Machine.Front.{begins_value, begins_simple, begins_plain, begins_with, other_sign, other_word, by_front, trace_alike, any_begins, simple_begins, plain_begins, no_else, statements_no_else}
 use Rattle.cm_syntax.proofs.Machine.ExpressionTrace.{Ends, paren_ends, bracket_ends, comma_ends, semicolon_ends, as_ends, any_leads, call_leads, named_call_leads}
 

@@ -1,6 +1,6 @@
 -- What the machine counts at tokens, and how traces are put together.
-use Rattle.std.proofs.Common.{◌≡◌, ℕ, List, [], ◌∷◌, ◌++◌, refl, sym, ap, ◌∙◌}
-use Rattle.cm_syntax.specs.Token.{Token, LocatedToken}
+use Rattle.std.proofs.Common.{◌≡◌, List, [], ◌∷◌, ◌++◌, refl, ap, ◌∙◌}
+use Rattle.cm_syntax.specs.Token.{LocatedToken}
 use Rattle.cm_syntax.specs.ParseTree.{Offset}
 use Rattle.cm_syntax.specs.Yield.{Quantity, CountedToken, located_tokens}
 use Rattle.cm_syntax.specs.Machine.{State, Next, goes, stops, step}
