@@ -8,8 +8,7 @@ pub mod RefusalLaws
 pub mod Lexing
 pub mod ProgramLaws
 pub mod SourceRows
-mod MachineRows
-pub mod Machine
+pub mod machine
 pub mod NameRows
 pub mod SoundLaws
 pub mod BoundLaws

@@ -5,3 +5,4 @@ pub mod ExpressionTrace
 pub mod StatementTrace
 pub mod ProgramTrace
 pub mod OneTree
+mod Rows
