@@ -1,5 +1,5 @@
 -- The lemmas that the proofs share.
-pub mod Rows
+pub mod ValueRows
 pub mod FrameLaws
 pub mod StatementLaws
 pub mod Spelling
@@ -15,6 +15,7 @@ pub mod BoundLaws
 pub mod AnswerLaws
 pub mod OneAnswer
 pub mod NameLaws
+pub mod NumberLaws
 pub mod CountLaws
 pub mod Laying
 pub mod TextLaws

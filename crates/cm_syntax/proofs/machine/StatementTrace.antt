@@ -56,8 +56,8 @@ items_lead (grammar.Items.before first comma more) before k t rest closes no_com
 
 -- a declaration behind its `int`
 declaration_leads : (d : Declaration) (k : Stmt Name → State) (at : Offset) (rest : List LocatedToken) →
-    Leads (declaration k) (items_tokens d.declarators) ((sign_at sign.Semicolon at).located ∷ rest) (k (lower_declaration d))
-declaration_leads d k at rest = items_lead d.declarators [] (λ items. k (statement.Declare items)) _ rest semicolon_closes refl
+    Leads (declaration k) (items_tokens d.items) ((sign_at sign.Semicolon at).located ∷ rest) (k (lower_declaration d))
+declaration_leads d k at rest = items_lead d.items [] (λ items. k (statement.Declare items)) _ rest semicolon_closes refl
 
 -- ---- assignments and calls
 
