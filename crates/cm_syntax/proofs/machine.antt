@@ -5,4 +5,5 @@ pub mod ExpressionTrace
 pub mod StatementTrace
 pub mod ProgramTrace
 pub mod OneTree
+pub mod NumberCap
 mod Rows
