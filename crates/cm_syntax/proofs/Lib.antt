@@ -8,13 +8,11 @@ pub mod RefusalLaws
 pub mod Lexing
 pub mod ProgramLaws
 pub mod SourceRows
+pub mod machine
 pub mod NameRows
 pub mod SoundLaws
 pub mod BoundLaws
 pub mod AnswerLaws
-pub mod Reading
-pub mod OneTree
-pub mod OneProgram
 pub mod OneAnswer
 pub mod NameLaws
 pub mod NumberLaws

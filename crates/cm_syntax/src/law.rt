@@ -16,6 +16,8 @@ ghost use Rattle.cm_syntax.specs.declared.stmt.Tree.{Tree};
 ghost use Rattle.cm_syntax.specs.declared.token.Keyword.TheVariants as keywords;
 ghost use Rattle.cm_syntax.specs.declared.token.Sign.TheVariants as signs;
 ghost use Rattle.cm_syntax.specs.Token.{Token, LocatedToken, token_at, Tokens};
+ghost use Rattle.cm_syntax.specs.ParseTree as grammar;
+ghost use Rattle.cm_syntax.specs.Yield.{CountedToken, program_tokens, located_tokens};
 ghost use Rattle.cm_syntax.specs.Grammar.{IsExpression, IsPrimary, IsArgument, IsCall, IsItem, AreItems, IsDeclaration, IsTarget, IsSimple, IsPlain, AreStatements, IsStatement, IsBlock, IsParameter, AreParameters, IsFunction, Parses, IsSourceOf};
 ghost use Rattle.cm_syntax.specs.Refusal.{Syntax, Size, Refusal, IsAnswer, IsSoundTree};
 ghost use Rattle.cm_syntax.specs.Canonical.{canonical};
@@ -65,6 +67,14 @@ pub fn one_tree()
     ensures tokens { (tokens : List LocatedToken) (x y : List (Function Name)) → Parses tokens x
         → Parses tokens y → x ≡ y }
     ensures source { (bytes : List ℕ) (x y : Tree) → IsSourceOf bytes x → IsSourceOf bytes y → x ≡ y }
+{}
+
+/// What is counted at a token against the limits depends on the tokens up to it alone: two programs whose tokens
+/// begin alike have the same counts there.
+pub fn one_count()
+    ensures { (a b : grammar.Program) (before others more rest : List CountedToken)
+        → program_tokens a ≡ before ++ more → program_tokens b ≡ others ++ rest
+        → located_tokens before ≡ located_tokens others → before ≡ others }
 {}
 
 /// Syntax is refused at one offset at most.
