@@ -6,4 +6,5 @@ pub mod StatementTrace
 pub mod ProgramTrace
 pub mod OneTree
 pub mod NumberCap
+pub mod Run
 mod Rows
