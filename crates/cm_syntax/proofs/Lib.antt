@@ -25,3 +25,4 @@ pub mod Printing
 pub mod StatementPrinting
 pub mod SoundTokens
 pub mod ProgramPrinting
+mod machine

@@ -1,0 +1,3 @@
+-- Laws of the machine.
+pub mod Written
+pub mod Wanted
