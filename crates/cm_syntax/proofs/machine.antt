@@ -1,3 +1,5 @@
 -- Laws of the machine.
 pub mod Written
 pub mod Wanted
+pub mod ExpressionTakes
+pub mod StatementTakes

@@ -15,6 +15,7 @@ use Rattle.cm_syntax.specs.declared.stmt.Stmt.{Stmt}
 use Rattle.cm_syntax.specs.declared.stmt.Stmt.TheVariants as statement
 use Rattle.cm_syntax.specs.declared.stmt.Function.{Function}
 use Rattle.cm_syntax.specs.declared.token.Keyword.TheVariants as keyword
+use Rattle.cm_syntax.specs.declared.token.Sign.{Sign}
 use Rattle.cm_syntax.specs.declared.token.Sign.TheVariants as sign
 use Rattle.cm_syntax.specs.Token.{Token, LocatedToken, token_at}
 use Rattle.cm_syntax.specs.ParseTree.{Mark, Offset, is_unary, is_update, level_of, Expression, Arguments, Argument, AnyExpression, Simple, FirstPart, Plain, Statements, ParameterList, Parameters}
@@ -49,8 +50,8 @@ tail_then (Tail.more o binary low at e tight t) rest = sign_then (sign_of o) at 
 pub data Closed : Type 0 where
   closed : AnyExpression → Offset → Closed
 
-abbrev pub index_then : Closed → List LocatedToken → List LocatedToken
-index_then (Closed.closed e closing) rest = any_then e (sign_then sign.BracketClose closing rest)
+abbrev pub closed_then : Sign → Closed → List LocatedToken → List LocatedToken
+closed_then s (Closed.closed e closing) rest = any_then e (sign_then s closing rest)
 
 -- arguments, where there are some, and `)`
 pub data FirstArguments : Type 0 where
@@ -85,7 +86,7 @@ pub data OperandName : Type 0 where
 
 abbrev pub operand_name_then : OperandName → List LocatedToken → List LocatedToken
 operand_name_then OperandName.nothing rest = rest
-operand_name_then (OperandName.index opening i) rest = sign_then sign.BracketOpen opening (index_then i rest)
+operand_name_then (OperandName.index opening i) rest = sign_then sign.BracketOpen opening (closed_then sign.BracketClose i rest)
 operand_name_then (OperandName.call opening all) rest = sign_then sign.ParenOpen opening (first_arguments_then all rest)
 
 -- ---- parts of declarations and simple statements
@@ -124,7 +125,7 @@ pub data TargetName : Type 0 where
 
 abbrev pub target_name_then : TargetName → List LocatedToken → List LocatedToken
 target_name_then TargetName.nothing rest = rest
-target_name_then (TargetName.index opening i) rest = sign_then sign.BracketOpen opening (index_then i rest)
+target_name_then (TargetName.index opening i) rest = sign_then sign.BracketOpen opening (closed_then sign.BracketClose i rest)
 
 -- what stands behind the target of an assignment
 pub data Writing : Type 0 where
