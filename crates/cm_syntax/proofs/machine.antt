@@ -3,3 +3,4 @@ pub mod Written
 pub mod Wanted
 pub mod ExpressionTakes
 pub mod StatementTakes
+pub mod PlainTakes

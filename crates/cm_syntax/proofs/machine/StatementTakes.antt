@@ -28,7 +28,7 @@ use Rattle.cm_syntax.proofs.machine.Wanted.{Begins, begins, Closed, closed_then,
 use Rattle.cm_syntax.proofs.machine.ExpressionTakes.{Enters, by_either, by_sign, by_word, BehindValue, value_begins, closed_begins, value_takes}
 
 -- behind a statement a continuation goes on
-abbrev BehindStatement : (Stmt Name → State) → List LocatedToken → Type 0
+abbrev pub BehindStatement : (Stmt Name → State) → List LocatedToken → Type 0
 BehindStatement k rest = (s : Stmt Name) × Continues (k s) rest
 
 -- behind declarators a continuation goes on
@@ -44,7 +44,7 @@ abbrev BehindTarget : (Target Name → State) → List LocatedToken → Type 0
 BehindTarget k rest = (t : Target Name) × Continues (k t) rest
 
 -- behind a call a continuation goes on
-abbrev BehindCall : (Call Name → State) → List LocatedToken → Type 0
+abbrev pub BehindCall : (Call Name → State) → List LocatedToken → Type 0
 BehindCall k rest = (c : Call Name) × Continues (k c) rest
 
 -- ---- declarations
@@ -105,7 +105,7 @@ more_items_take token at before k w passes h =
     by_items w (begins all rest h) = begins (MoreItems.some at all) rest h
 
 -- behind the `int` of a declaration
-declared : (at : Offset) (k : Stmt Name → State) (w : List LocatedToken) → Continues (declaration k) w → Begins declaration_then (BehindStatement k) (word_then keyword.Int at w)
+pub declared : (at : Offset) (k : Stmt Name → State) (w : List LocatedToken) → Continues (declaration k) w → Begins declaration_then (BehindStatement k) (word_then keyword.Int at w)
 declared at k w h = by_items w (items_begin [] (λ items. k (statement.Declare items)) w h)
   where
     by_items : (w : List LocatedToken) → Begins items_then (BehindItems (λ items. k (statement.Declare items))) w → Begins declaration_then (BehindStatement k) (word_then keyword.Int at w)
@@ -201,11 +201,11 @@ simple_name_takes x token at k w h =
     by_writing w (begins writing rest h) = begins (SimpleName.writes TargetName.nothing writing) rest h
 
 -- a call of a name
-named_call : Mark → (opening : Offset) → FirstArguments → grammar.Call
+pub named_call : Mark → (opening : Offset) → FirstArguments → grammar.Call
 named_call x opening (FirstArguments.none closing) = grammar.Call.alone x opening closing
 named_call x opening (FirstArguments.some all closing) = grammar.Call.with_ x opening all closing
 
-named_call_same : (x : Mark) (opening : Offset) (all : FirstArguments) (rest : List LocatedToken) →
+pub named_call_same : (x : Mark) (opening : Offset) (all : FirstArguments) (rest : List LocatedToken) →
     call_then (named_call x opening all) rest ≡ name_then x (sign_then sign.ParenOpen opening (first_arguments_then all rest))
 unfolding named_call
 named_call_same x opening (FirstArguments.none closing) rest = refl
@@ -224,11 +224,11 @@ written_simple_same t (Writing.update o updates at e) rest = refl
 written_simple_same t (Writing.step up at) rest = refl
 
 -- an assignment or a call that begins with a name
-named_simple : Mark → SimpleName → Simple
+pub named_simple : Mark → SimpleName → Simple
 named_simple x (SimpleName.writes t writing) = written_simple (named_target x t) writing
 named_simple x (SimpleName.call opening all) = Simple.call (named_call x opening all)
 
-named_simple_same : (x : Mark) (s : SimpleName) (rest : List LocatedToken) → simple_then (named_simple x s) rest ≡ name_then x (simple_name_then s rest)
+pub named_simple_same : (x : Mark) (s : SimpleName) (rest : List LocatedToken) → simple_then (named_simple x s) rest ≡ name_then x (simple_name_then s rest)
 unfolding named_simple
 named_simple_same x (SimpleName.writes t writing) rest = written_simple_same (named_target x t) writing rest ∙ named_target_same x t (writing_then writing rest)
 named_simple_same x (SimpleName.call opening all) rest = named_call_same x opening all rest
