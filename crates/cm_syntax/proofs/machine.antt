@@ -4,3 +4,4 @@ pub mod Wanted
 pub mod ExpressionTakes
 pub mod StatementTakes
 pub mod PlainTakes
+pub mod Takes
