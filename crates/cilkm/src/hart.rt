@@ -75,9 +75,45 @@ impl Words for Stack {
     }
 }
 
+/// A run that came to the end service: the image that was run, and the number in register 5 there. Only
+/// `run` makes one. Contracts see its words and its value.
+#[derive(Debug, Drop)]
+pub struct EndedRun {
+    image: Image,
+    value: i32,
+}
+
+impl Model for EndedRun {
+    ghost use Rattle.cilkm.specs.Run.{Run};
+
+    ghost Value = { Run };
+
+    ghost view = { λ run. record { words = run.image.words; value = run.value } };
+}
+
+impl EndedRun {
+    /// The number in register 5 at the end.
+    pub fn value(&self) -> i32
+        ensures { result ≡ self.now.value }
+    {
+        self.value
+    }
+}
+
 /// Runs the image from its start to the end service, with an account of so many bytes and with so many
-/// ticks, and gives the number in register 5 there.
-pub(crate) fn run(image: &Image, stack: &mut Stack, account: u32, ticks: u32) -> i32
+/// ticks.
+pub(crate) fn run(image: Image, stack: &mut Stack, account: u32, ticks: u32) -> EndedRun
+    requires { (value : ℤ) × (steps : ℕ) × (steps < 2 ^ 30) × Ends image.words (start_machine stack.old account ticks) steps value }
+    ensures words { result.words ≡ image.words }
+    ensures value { (value : ℤ) (steps : ℕ) → Ends image.words (start_machine stack.old account ticks) steps value
+        → result.value ≡ value }
+{
+    let value = end_value(&image, stack, account, ticks);
+    EndedRun { image, value }
+}
+
+/// Steps through the image up to the end service, and gives the number in register 5 there.
+fn end_value(image: &Image, stack: &mut Stack, account: u32, ticks: u32) -> i32
     requires { (value : ℤ) × (steps : ℕ) × (steps < 2 ^ 30) × Ends image.now.words (start_machine stack.old account ticks) steps value }
     ensures { (value : ℤ) (steps : ℕ) → Ends image.now.words (start_machine stack.old account ticks) steps value → result ≡ value }
 {

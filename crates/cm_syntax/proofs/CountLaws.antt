@@ -8,7 +8,8 @@ use Rattle.cm_syntax.specs.declared.stmt.Function.{Function}
 use Rattle.cm_syntax.specs.declared.stmt.Tree.{Tree}
 use Rattle.cm_syntax.specs.Text.{is_same}
 use Rattle.cm_syntax.specs.Resolution.{function_uses}
-use Rattle.cm_syntax.specs.Fault.{twice, kind, frame, count, fault_at, fault_where, max_frame_words, is_wrong_main, frame_of, use_faults, function_faults, functions_faults, Faulty}
+use Rattle.cm_syntax.specs.Limit.{max_frame_words}
+use Rattle.cm_syntax.specs.Fault.{twice, kind, frame, count, fault_at, fault_where, is_wrong_main, frame_of, use_faults, function_faults, functions_faults, Faulty}
 
 module _ (functions : List (Function Name)) where
   -- a function of index 256 has the fault

@@ -1,5 +1,5 @@
 -- The lemmas that the proofs share.
-pub mod Rows
+pub mod ValueRows
 pub mod FrameLaws
 pub mod StatementLaws
 pub mod Spelling
@@ -8,16 +8,14 @@ pub mod RefusalLaws
 pub mod Lexing
 pub mod ProgramLaws
 pub mod SourceRows
-mod MachineRows
+pub mod machine
 pub mod NameRows
 pub mod SoundLaws
 pub mod BoundLaws
 pub mod AnswerLaws
-pub mod Reading
-pub mod OneTree
-pub mod OneProgram
 pub mod OneAnswer
 pub mod NameLaws
+pub mod NumberLaws
 pub mod CountLaws
 pub mod Laying
 pub mod TextLaws
@@ -25,4 +23,3 @@ pub mod Printing
 pub mod StatementPrinting
 pub mod SoundTokens
 pub mod ProgramPrinting
-mod machine

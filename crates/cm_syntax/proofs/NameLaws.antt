@@ -1,5 +1,6 @@
 -- What a mention stands for has its slot among the slots of its function.
 use Rattle.std.proofs.Common.{◌≡◌, ℕ, zero, suc, Bool, true, false, List, [], ◌∷◌, ◌++◌, length, refl, sym, ap, ◌∙◌, subst, arith, Option, None, Some, append_assoc, append-nil, length-append, if◌then◌else◌, cond}
+use Rattle.std.proofs.lemmas.List.{length-map}
 use Rattle.std.specs.Prelude.{⊤, map, slice_get}
 use Rattle.std.specs.List.{list_any}
 use Rattle.cm_syntax.specs.declared.name.Name.{Name}
@@ -19,7 +20,7 @@ use Rattle.cm_syntax.specs.declared.stmt.Stmt.TheVariants as statement
 use Rattle.cm_syntax.specs.declared.stmt.Function.{Function}
 use Rattle.cm_syntax.specs.Shape.{Joined, Prefixed, Element, InputAt, IfAlone, IfElse, WhileLoop, ForLoop}
 use Rattle.cm_syntax.specs.Text.{is_same}
-use Rattle.cm_syntax.specs.Resolution.{Variable, Scope, lookup, hide, inner_scope, declare_name, split_scope, statement_slots, statements_slots, body_slots, function_slots, declare_items, reserve_slots, scope_after, Use, mention, redeclaration, expression_uses, arguments_uses, argument_uses, optional_uses, call_uses, target_uses, redeclaration_uses, items_uses, spawn_uses, statement_uses, statements_uses, body_uses, function_uses, function_scope, ResolvesTo}
+use Rattle.cm_syntax.specs.Resolution.{Variable, Scope, lookup, hide, inner_scope, declare_name, part_slot, split_scope, slot_count, slots_count, statement_slots, statements_slots, body_slots, function_slots, declare_items, reserve_slots, scope_after, Use, mention, redeclaration, expression_uses, arguments_uses, argument_uses, optional_uses, call_uses, target_uses, redeclaration_uses, items_uses, spawn_uses, statement_uses, statements_uses, body_uses, function_uses, function_scope, ResolvesTo}
 
 -- ---- each of a list's elements
 
@@ -39,6 +40,38 @@ Each-at P (y ∷ xs) (suc i) x h e = Each-at P xs i x h.1 e
 get_behind : (before : List Slot) (kind : Slot) (rest : List Slot) → slice_get (before ++ kind ∷ rest) (length before) ≡ Some kind
 get_behind [] kind rest = refl
 get_behind (k ∷ before) kind rest = get_behind before kind rest
+
+-- a statement has as many slots as are counted
+mutual
+  pub slots_counted : (scope : Scope) (s : Stmt Name) → length (statement_slots scope s) ≡ slot_count s
+  slots_counted scope (statement.Declare items) = length-map items (λ (item : Item Name). item.slot)
+  slots_counted scope (IfAlone test chosen) = slots_counted (inner_scope scope) chosen
+  slots_counted scope (IfElse test chosen other) =
+      let first = statement_slots (inner_scope scope) chosen in
+      let second = statement_slots (inner_scope (reserve_slots scope chosen)) other in
+      omega (arith, length-append first second, slots_counted (inner_scope scope) chosen, slots_counted (inner_scope (reserve_slots scope chosen)) other)
+  slots_counted scope (WhileLoop test body) = slots_counted (inner_scope scope) body
+  slots_counted scope (ForLoop first test step body) =
+      let header = scope_after (inner_scope scope) first in
+      let inner = inner_scope (reserve_slots header step) in
+      let behind = statement_slots header step ++ statement_slots inner body in
+      omega (
+        arith,
+        length-append (statement_slots (inner_scope scope) first) behind,
+        length-append (statement_slots header step) (statement_slots inner body),
+        slots_counted (inner_scope scope) first,
+        slots_counted header step,
+        slots_counted inner body,
+      )
+  slots_counted scope (statement.Split' whole index left right _ body close) =
+      omega (arith, row_slots_counted (inner_scope (split_scope scope whole left right)) body)
+  slots_counted scope (statement.Block' _ body) = row_slots_counted (inner_scope scope) body
+  slots_counted scope _ = refl
+
+  row_slots_counted : {n : _} (scope : Scope) (ss : Row_of-Stmt Name n) → length (statements_slots scope ss) ≡ slots_count ss
+  row_slots_counted scope end_of-Stmt = refl
+  row_slots_counted scope (more_of-Stmt first more) =
+      omega (arith, length-append (statement_slots scope first) (statements_slots (scope_after scope first) more), slots_counted scope first, row_slots_counted (scope_after scope first) more)
 
 module _ (all : List Slot) where
   -- the variable has its slot among all slots
@@ -73,12 +106,12 @@ module _ (all : List Slot) where
   record Fits (scope : Scope) (coming : List Slot) : Type 0 where
     visible : Each Agrees scope.visible
     before : List Slot
-    at : length before ≡ scope.next
+    at : length before ≡ scope.next_slot
     parts : all ≡ before ++ coming
 
   declared_fits : (scope : Scope) (x : Mark Name) (kind : Slot) (coming : List Slot) → Fits scope (kind ∷ coming) → Fits (declare_name scope x kind) coming
   declared_fits scope x kind coming h = record {
-    visible = (ap (λ s. slice_get s scope.next) h.parts ∙ (ap (slice_get (h.before ++ kind ∷ coming)) (sym h.at) ∙ get_behind h.before kind coming), h.visible);
+    visible = (ap (λ s. slice_get s scope.next_slot) h.parts ∙ (ap (slice_get (h.before ++ kind ∷ coming)) (sym h.at) ∙ get_behind h.before kind coming), h.visible);
     before = h.before ++ kind ∷ [];
     at = omega (arith, length-append h.before (kind ∷ []), h.at);
     parts = h.parts ∙ sym (append_assoc h.before (kind ∷ []) coming);
@@ -87,13 +120,13 @@ module _ (all : List Slot) where
   within_fits : (scope : Scope) (coming : List Slot) → Fits scope coming → Fits (inner_scope scope) coming
   within_fits scope coming h = record { visible = h.visible; before = h.before; at = h.at; parts = h.parts }
 
-  -- slots of what comes first, and then of the rest
-  past_fits : (scope : Scope) (s : Stmt Name) (coming : List Slot) → Fits scope (statement_slots s ++ coming) → Fits (reserve_slots scope s) coming
-  past_fits scope s coming h = record {
+  -- slots of what comes first, which may have a scope of its own, and then of the rest
+  past_fits : (scope own : Scope) (s : Stmt Name) (coming : List Slot) → Fits scope (statement_slots own s ++ coming) → Fits (reserve_slots scope s) coming
+  past_fits scope own s coming h = record {
     visible = h.visible;
-    before = h.before ++ statement_slots s;
-    at = omega (arith, length-append h.before (statement_slots s), h.at);
-    parts = h.parts ∙ sym (append_assoc h.before (statement_slots s) coming);
+    before = h.before ++ statement_slots own s;
+    at = omega (arith, length-append h.before (statement_slots own s), h.at, slots_counted own s);
+    parts = h.parts ∙ sym (append_assoc h.before (statement_slots own s) coming);
   }
 
   items_fit : (scope : Scope) (items : List (Item Name)) (coming : List Slot) → Fits scope (map (λ item. item.slot) items ++ coming) → Fits (declare_items scope items) coming
@@ -143,7 +176,7 @@ module _ (all : List Slot) where
   target_agrees visible (target.Index a index) h = (named_agrees visible a.name h, expression_agrees visible index h)
 
   again_agrees : (scope : Scope) (x : Mark Name) → Each UseAgrees (redeclaration_uses scope x)
-  again_agrees scope x = by_test (list_any (is_same x.name) scope.here)
+  again_agrees scope x = by_test (list_any (is_same x.name) scope.declared)
     where
       by_test : (b : Bool) → Each UseAgrees (if b then redeclaration x.at ∷ [] else [])
       by_test true = (tt, tt)
@@ -165,18 +198,20 @@ module _ (all : List Slot) where
   spawn_agrees visible at None call h = (tt, call_agrees visible false (expression.Call call) h)
   spawn_agrees visible at (Some x) call h = (named_agrees visible x.name h, (tt, call_agrees visible true (expression.Call call) h))
 
-  after_fits : (scope : Scope) (s : Stmt Name) (coming : List Slot) → Fits scope (statement_slots s ++ coming) → Fits (scope_after scope s) coming
+  after_fits : (scope : Scope) (s : Stmt Name) (coming : List Slot) → Fits scope (statement_slots scope s ++ coming) → Fits (scope_after scope s) coming
   after_fits scope (statement.Declare items) coming h = items_fit scope items coming h
-  after_fits scope s coming h = past_fits scope s coming h
+  after_fits scope s coming h = past_fits scope scope s coming h
 
-  parts_fit : (scope : Scope) (whole left right : Mark Name) (coming : List Slot) → Fits scope (slot.Slice ∷ slot.Slice ∷ coming) → Fits (split_scope scope whole left right) coming
+  parts_fit : (scope : Scope) (whole left right : Mark Name) (coming : List Slot) →
+      Fits scope (part_slot (lookup scope.visible whole.name) ∷ part_slot (lookup scope.visible whole.name) ∷ coming) → Fits (split_scope scope whole left right) coming
   parts_fit scope whole left right coming h =
-      let hidden : Scope = record { visible = hide whole.name scope.visible; here = []; next = scope.next } in
-      declared_fits (declare_name hidden left slot.Slice) right slot.Slice coming (declared_fits hidden left slot.Slice (slot.Slice ∷ coming)
+      let hidden : Scope = record { visible = hide whole.name scope.visible; declared = []; next_slot = scope.next_slot } in
+      let kind = part_slot (lookup scope.visible whole.name) in
+      declared_fits (declare_name hidden left kind) right kind coming (declared_fits hidden left kind (kind ∷ coming)
       (record { visible = without_agrees whole.name scope.visible h.visible; before = h.before; at = h.at; parts = h.parts }))
 
   mutual
-    statement_agrees : (scope : Scope) (s : Stmt Name) (coming : List Slot) → Fits scope (statement_slots s ++ coming) → Each UseAgrees (statement_uses scope s)
+    statement_agrees : (scope : Scope) (s : Stmt Name) (coming : List Slot) → Fits scope (statement_slots scope s ++ coming) → Each UseAgrees (statement_uses scope s)
     statement_agrees scope statement.Empty coming h = tt
     statement_agrees scope (statement.Declare items) coming h = items_agree scope items coming h
     statement_agrees scope (statement.Assign written op value) coming h =
@@ -185,68 +220,79 @@ module _ (all : List Slot) where
     statement_agrees scope (statement.Spawn at destination call) coming h = spawn_agrees scope.visible at destination call h.visible
     statement_agrees scope (statement.Sync at) coming h = (tt, tt)
     statement_agrees scope (IfAlone test chosen) coming h =
-        Each-append UseAgrees (expression_uses scope.visible test) (statement_uses (inner_scope scope) chosen) (expression_agrees scope.visible test h.visible)
-        (statement_agrees (inner_scope scope) chosen coming (within_fits scope (statement_slots chosen ++ coming) h))
+        let inner = inner_scope scope in
+        Each-append UseAgrees (expression_uses scope.visible test) (statement_uses inner chosen) (expression_agrees scope.visible test h.visible)
+        (statement_agrees inner chosen coming (within_fits scope (statement_slots inner chosen ++ coming) h))
     statement_agrees scope (IfElse test chosen other) coming h =
-        let split = regrouped scope (statement_slots chosen) (statement_slots other) coming h in
-        let first = statement_uses (inner_scope scope) chosen in
-        let second = statement_uses (inner_scope (reserve_slots scope chosen)) other in
-        Each-append UseAgrees (expression_uses scope.visible test) (first ++ second) (expression_agrees scope.visible test h.visible)
-        (Each-append UseAgrees first second
-        (statement_agrees (inner_scope scope) chosen (statement_slots other ++ coming) (within_fits scope (statement_slots chosen ++ (statement_slots other ++ coming)) split))
-        (statement_agrees (inner_scope (reserve_slots scope chosen)) other coming
-        (within_fits (reserve_slots scope chosen) (statement_slots other ++ coming) (past_fits scope chosen (statement_slots other ++ coming) split))))
+        let inner = inner_scope scope in
+        let behind = inner_scope (reserve_slots scope chosen) in
+        let first = statement_slots inner chosen in
+        let second = statement_slots behind other in
+        let split = regrouped scope first second coming h in
+        Each-append UseAgrees (expression_uses scope.visible test) (statement_uses inner chosen ++ statement_uses behind other) (expression_agrees scope.visible test h.visible)
+        (Each-append UseAgrees (statement_uses inner chosen) (statement_uses behind other)
+        (statement_agrees inner chosen (second ++ coming) (within_fits scope (first ++ (second ++ coming)) split))
+        (statement_agrees behind other coming
+        (within_fits (reserve_slots scope chosen) (second ++ coming) (past_fits scope inner chosen (second ++ coming) split))))
     statement_agrees scope (WhileLoop test body) coming h =
-        Each-append UseAgrees (expression_uses scope.visible test) (statement_uses (inner_scope scope) body) (expression_agrees scope.visible test h.visible)
-        (statement_agrees (inner_scope scope) body coming (within_fits scope (statement_slots body ++ coming) h))
+        let inner = inner_scope scope in
+        Each-append UseAgrees (expression_uses scope.visible test) (statement_uses inner body) (expression_agrees scope.visible test h.visible)
+        (statement_agrees inner body coming (within_fits scope (statement_slots inner body ++ coming) h))
     statement_agrees scope (ForLoop first test step body) coming h =
         let inner = inner_scope scope in
         let header = scope_after inner first in
-        let rest = statement_slots step ++ statement_slots body in
-        let outer = within_fits scope _ (regrouped scope (statement_slots first) rest coming h) in
-        let behind = after_fits inner first (rest ++ coming) outer in
-        let split = regrouped header (statement_slots step) (statement_slots body) coming behind in
+        let behind = inner_scope (reserve_slots header step) in
+        let last = statement_slots behind body in
+        let rest = statement_slots header step ++ last in
+        let outer = within_fits scope _ (regrouped scope (statement_slots inner first) rest coming h) in
+        let known = after_fits inner first (rest ++ coming) outer in
+        let split = regrouped header (statement_slots header step) last coming known in
         let third = statement_uses header step in
-        let fourth = statement_uses (inner_scope (reserve_slots header step)) body in
+        let fourth = statement_uses behind body in
         Each-append UseAgrees (statement_uses inner first) (optional_uses header.visible test ++ (third ++ fourth)) (statement_agrees inner first (rest ++ coming) outer)
-        (Each-append UseAgrees (optional_uses header.visible test) (third ++ fourth) (optional_agrees header.visible test behind.visible)
-        (Each-append UseAgrees third fourth (statement_agrees header step (statement_slots body ++ coming) split)
-        (statement_agrees (inner_scope (reserve_slots header step)) body coming
-        (within_fits (reserve_slots header step) (statement_slots body ++ coming) (past_fits header step (statement_slots body ++ coming) split)))))
+        (Each-append UseAgrees (optional_uses header.visible test) (third ++ fourth) (optional_agrees header.visible test known.visible)
+        (Each-append UseAgrees third fourth (statement_agrees header step (last ++ coming) split)
+        (statement_agrees behind body coming
+        (within_fits (reserve_slots header step) (last ++ coming) (past_fits header header step (last ++ coming) split)))))
     statement_agrees scope (statement.Split' whole index left right _ body close) coming h =
         let parts = inner_scope (split_scope scope whole left right) in
         let doubled = if is_same left.name right.name then redeclaration right.at ∷ [] else [] in (
           named_agrees scope.visible whole.name h.visible,
           Each-append UseAgrees (expression_uses scope.visible index) (doubled ++ statements_uses parts body) (expression_agrees scope.visible index h.visible)
               (Each-append UseAgrees doubled (statements_uses parts body) (doubled_agrees (is_same left.name right.name) right.at)
-              (statements_agree parts body coming (within_fits (split_scope scope whole left right) (statements_slots body ++ coming)
-              (parts_fit scope whole left right (statements_slots body ++ coming) h)))),
+              (statements_agree parts body coming (within_fits (split_scope scope whole left right) (statements_slots parts body ++ coming)
+              (parts_fit scope whole left right (statements_slots parts body ++ coming) h)))),
         )
     statement_agrees scope (statement.Return at value) coming h = (tt, optional_agrees scope.visible value h.visible)
     statement_agrees scope (statement.Print value) coming h = expression_agrees scope.visible value h.visible
-    statement_agrees scope (statement.Block' _ body) coming h = statements_agree (inner_scope scope) body coming (within_fits scope (statements_slots body ++ coming) h)
+    statement_agrees scope (statement.Block' _ body) coming h =
+        statements_agree (inner_scope scope) body coming (within_fits scope (statements_slots (inner_scope scope) body ++ coming) h)
 
-    statements_agree : {n : _} (scope : Scope) (ss : Row_of-Stmt Name n) (coming : List Slot) → Fits scope (statements_slots ss ++ coming) → Each UseAgrees (statements_uses scope ss)
+    statements_agree : {n : _} (scope : Scope) (ss : Row_of-Stmt Name n) (coming : List Slot) → Fits scope (statements_slots scope ss ++ coming) → Each UseAgrees (statements_uses scope ss)
     statements_agree scope end_of-Stmt coming h = tt
     statements_agree scope (more_of-Stmt first more) coming h =
-        let split = regrouped scope (statement_slots first) (statements_slots more) coming h in
-        Each-append UseAgrees (statement_uses scope first) (statements_uses (scope_after scope first) more) (statement_agrees scope first (statements_slots more ++ coming) split)
-        (statements_agree (scope_after scope first) more coming (after_fits scope first (statements_slots more ++ coming) split))
+        let behind = scope_after scope first in
+        let split = regrouped scope (statement_slots scope first) (statements_slots behind more) coming h in
+        Each-append UseAgrees (statement_uses scope first) (statements_uses behind more) (statement_agrees scope first (statements_slots behind more ++ coming) split)
+        (statements_agree behind more coming (after_fits scope first (statements_slots behind more ++ coming) split))
 
-  body_agrees : (scope : Scope) (ss : List (Stmt Name)) (coming : List Slot) → Fits scope (body_slots ss ++ coming) → Each UseAgrees (body_uses scope ss)
+  body_agrees : (scope : Scope) (ss : List (Stmt Name)) (coming : List Slot) → Fits scope (body_slots scope ss ++ coming) → Each UseAgrees (body_uses scope ss)
   body_agrees scope [] coming h = tt
   body_agrees scope (first ∷ more) coming h =
-      let split = regrouped scope (statement_slots first) (body_slots more) coming h in
-      Each-append UseAgrees (statement_uses scope first) (body_uses (scope_after scope first) more) (statement_agrees scope first (body_slots more ++ coming) split)
-      (body_agrees (scope_after scope first) more coming (after_fits scope first (body_slots more ++ coming) split))
+      let behind = scope_after scope first in
+      let split = regrouped scope (statement_slots scope first) (body_slots behind more) coming h in
+      Each-append UseAgrees (statement_uses scope first) (body_uses behind more) (statement_agrees scope first (body_slots behind more ++ coming) split)
+      (body_agrees behind more coming (after_fits scope first (body_slots behind more ++ coming) split))
 
 -- each mention of a function stands for a variable whose slot is of its kind
 pub ResolvesTo-slot : (f : Function Name) (i : ℕ) (v : Variable) → ResolvesTo f i v → slice_get (function_slots f) v.slot ≡ Some v.kind
 ResolvesTo-slot f i v (x, role, is) =
     let all = function_slots f in
-    let start : Fits all function_scope (map (λ item. item.slot) f.parameters ++ body_slots f.body) = record { visible = tt; before = []; at = refl; parts = refl } in
-    let behind : Fits all (declare_items function_scope f.parameters) (body_slots f.body ++ []) =
-    items_fit all function_scope f.parameters (body_slots f.body ++ []) (subst (λ s. Fits all function_scope (map (λ item. item.slot) f.parameters ++ s)) (sym (append-nil (body_slots f.body))) start) in
+    let outer = declare_items function_scope f.parameters in
+    let slots = body_slots outer f.body in
+    let start : Fits all function_scope (map (λ item. item.slot) f.parameters ++ slots) = record { visible = tt; before = []; at = refl; parts = refl } in
+    let behind : Fits all outer (slots ++ []) =
+    items_fit all function_scope f.parameters (slots ++ []) (subst (λ s. Fits all function_scope (map (λ item. item.slot) f.parameters ++ s)) (sym (append-nil slots)) start) in
     Each-at (UseAgrees all) (function_uses f) i (mention x role (Some v))
-    (Each-append (UseAgrees all) (items_uses function_scope f.parameters) (body_uses (declare_items function_scope f.parameters) f.body)
-    (items_agree all function_scope f.parameters (body_slots f.body) start) (body_agrees all (declare_items function_scope f.parameters) f.body [] behind)) is
+    (Each-append (UseAgrees all) (items_uses function_scope f.parameters) (body_uses outer f.body)
+    (items_agree all function_scope f.parameters slots start) (body_agrees all outer f.body [] behind)) is

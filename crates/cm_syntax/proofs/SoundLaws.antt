@@ -10,7 +10,8 @@ use Rattle.cm_syntax.specs.declared.stmt.Tree.{Tree}
 use Rattle.cm_syntax.specs.Frame.{frame_words, rounded_frame, slots_words, body_temporaries}
 use Rattle.cm_syntax.specs.Resolution.{Use, mention, call_use, redeclaration, parallel_keyword, return_keyword, function_uses, function_slots, function_scope, declare_items, resolve_body, resolve_functions, resolve_function}
 use Rattle.cm_syntax.specs.Text.{is_same}
-use Rattle.cm_syntax.specs.Fault.{Variant, twice, kind, frame, count, max_frame_words, max_functions, max_parameter_words, parameter_slots, is_wrong_main, fault_where, use_faults, is_faulty_mention, temporaries_of, frame_of, function_faults, functions_faults, faults, program_of, IsSoundFunction}
+use Rattle.cm_syntax.specs.Limit.{max_frame_words, max_functions, max_parameter_words}
+use Rattle.cm_syntax.specs.Fault.{Variant, twice, kind, frame, count, parameter_slots, is_wrong_main, fault_where, use_faults, is_faulty_mention, temporaries_of, frame_of, function_faults, functions_faults, faults, program_of, IsSoundFunction}
 
 nothing_first : {A : Type 0} (a b : List A) → a ++ b ≡ [] → a ≡ []
 nothing_first [] b e = refl
@@ -76,24 +77,24 @@ module _ (functions : List (Function Name)) where
       λ i. same i ∷ others i
 
   frame_numbered : (before : List (Function Name)) (index : ℕ) (f : Function Name) → function_faults functions before index f ≡ [] →
-      frame_words (resolve_function functions index f) ≤ 32768
+      frame_words (resolve_function functions index f) ≤ max_frame_words
   frame_numbered before index f e =
-      subst (λ n. n ≤ 32768) (frame_same before index f e) (ltb-false max_frame_words (frame_of functions f) (clean before index f e).few)
+      subst (λ n. n ≤ max_frame_words) (frame_same before index f e) (ltb-false max_frame_words (frame_of functions f) (clean before index f e).few)
 
   frames_numbered : (before : List (Function Name)) (index : ℕ) (fs : List (Function Name)) → functions_faults functions before index fs ≡ [] →
-      All (λ g. frame_words g ≤ 32768) (resolve_functions functions index fs)
-  frames_numbered before index [] e = All-nil (λ g. frame_words g ≤ 32768)
+      All (λ g. frame_words g ≤ max_frame_words) (resolve_functions functions index fs)
+  frames_numbered before index [] e = All-nil (λ g. frame_words g ≤ max_frame_words)
   frames_numbered before index (f ∷ more) e =
-      All-cons (λ g. frame_words g ≤ 32768) (resolve_function functions index f) (resolve_functions functions (index + 1) more)
+      All-cons (λ g. frame_words g ≤ max_frame_words) (resolve_function functions index f) (resolve_functions functions (index + 1) more)
       (frame_numbered before index f (nothing_first _ _ e)) (frames_numbered (before ++ f ∷ []) (index + 1) more (nothing_second _ _ e))
 
-pub sound_frame : (f : Function ℕ) → IsSoundFunction f → frame_words f ≤ 32768
+pub sound_frame : (f : Function ℕ) → IsSoundFunction f → frame_words f ≤ max_frame_words
 sound_frame f (program, sound, (k, lt, is)) =
     let tree = sound.0 in
     let all = frames_numbered tree.functions [] 0 tree.functions (nothing_first _ _ sound.2) in
     let among : slice_index_or (resolve_functions tree.functions 0 tree.functions) k f ≡ f = ap (λ p. slice_index_or p.functions k f) (sym sound.3) ∙ is in
     let within : k < length (resolve_functions tree.functions 0 tree.functions) = subst (λ p. k < length p.functions) sound.3 lt in
-    subst (λ g. frame_words g ≤ 32768) among (all k f within)
+    subst (λ g. frame_words g ≤ max_frame_words) among (all k f within)
 
 -- in a tree without faults the words that are counted for a fault are those of the frames
 pub frames_agree : (tree : Tree) → faults tree ≡ [] → map (frame_of tree.functions) tree.functions ≡ map frame_words (program_of tree).functions

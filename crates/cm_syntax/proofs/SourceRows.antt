@@ -84,7 +84,7 @@ grouped_row =
 abbrev pub loop_source : grammar.Program
 loop_source = grammar.Program.last (definition None true 0 (mark (codes "main") 4) 8 Parameters.none 9 11 (Statements.declare (record {
   int_at = 13;
-  declarators = (grammar.Items.last (grammar.Item.scalar (mark (codes "i") 17)));
+  items = (grammar.Items.last (grammar.Item.scalar (mark (codes "i") 17)));
 }) 18 (Statements.plain (Plain.for 20 24 (FirstPart.simple (Simple.assign
     (grammar.Target.scalar (mark (codes "i") 25)) 27 (AnyExpression.any (Expression.literal 29 0)))) 30 None 32 (Some (Simple.step_before false 34 (grammar.Target.scalar
     (mark (codes "i") 36)))) 37 (Plain.block 39 (Statements.plain (Plain.while 41 47 (AnyExpression.any (Expression.joined op.Lt refl (Expression.prefixed
@@ -102,7 +102,7 @@ spawned_source = grammar.Program.before (definition (Some 0) true 5 (mark (codes
     "a") 15) 16 17))) 18 20 (Statements.plain (Plain.return 22 (Some (AnyExpression.any (Expression.len 29 32 (mark (codes "a") 33) 34))) 35) Statements.none)
     37) (grammar.Program.last (definition (Some 39) true 44 (mark (codes "main") 48) 52 Parameters.none 53 55 (Statements.declare (record {
       int_at = 57;
-      declarators = (grammar.Items.before (grammar.Item.scalar (mark (codes "x") 61)) 62 (grammar.Items.last (grammar.Item.array (mark (codes "b") 64) 65 66 3
+      items = (grammar.Items.before (grammar.Item.scalar (mark (codes "x") 61)) 62 (grammar.Items.last (grammar.Item.array (mark (codes "b") 64) 65 66 3
           67)));
     }) 68 (Statements.plain (Plain.spawn_into (mark (codes "x") 70) 72 74 (grammar.Call.with_ (mark (codes "g") 80) 81 (Arguments.last
     (Argument.value (Expression.variable (mark (codes "b") 82)))) 83) 84) (Statements.plain (Plain.sync 86 90) (Statements.plain (Plain.return 92
@@ -125,7 +125,7 @@ constructs_source = grammar.Program.last (definition None false 0 (mark (codes "
     (Plain.print 88 93 (AnyExpression.any (Expression.inputs 94 100 101)) 102 103) Statements.none) 104) (Statements.plain (Plain.for 105 108 (FirstPart.declare
     (record {
       int_at = 109;
-      declarators = (grammar.Items.before (grammar.Item.set (mark (codes "k") 113) 114 (AnyExpression.any (Expression.literal 115 0))) 116
+      items = (grammar.Items.before (grammar.Item.set (mark (codes "k") 113) 114 (AnyExpression.any (Expression.literal 115 0))) 116
           (grammar.Items.last (grammar.Item.array (mark (codes "m") 117) 118 119 2 120)));
     })) 121 (Some (AnyExpression.any (Expression.joined op.Lt refl
     (Expression.variable (mark (codes "k") 122)) (omega arith) 123 (Expression.len 124 127 (mark (codes "a") 128) 129) (omega arith)))) 130 (Some
@@ -279,7 +279,7 @@ literal_row = answer_of_size (codes "int main() { return 2147483648; }") 20 (rec
 abbrev no_words_source : grammar.Program
 no_words_source = grammar.Program.last (definition None true 0 (mark (codes "main") 4) 8 Parameters.none 9 11 (Statements.declare (record {
   int_at = 13;
-  declarators = (grammar.Items.last (grammar.Item.array (mark (codes "a") 17) 18 19 0 20));
+  items = (grammar.Items.last (grammar.Item.array (mark (codes "a") 17) 18 19 0 20));
 }) 21 Statements.none) 23)
 
 pub no_words_row : IsAnswer (codes "int main() { int a[0]") Refusal.size 19
@@ -298,7 +298,7 @@ no_words_row = answer_of_size (codes "int main() { int a[0]") 19 (record {
 abbrev many_words_source : grammar.Program
 many_words_source = grammar.Program.last (definition None true 0 (mark (codes "main") 4) 8 Parameters.none 9 11 (Statements.declare (record {
   int_at = 13;
-  declarators = (grammar.Items.last (grammar.Item.array (mark (codes "a") 17) 18 19 16385 24));
+  items = (grammar.Items.last (grammar.Item.array (mark (codes "a") 17) 18 19 16385 24));
 }) 25 Statements.none) 27)
 
 pub many_words_row : IsAnswer (codes "int main() { int a[16385]") Refusal.size 19

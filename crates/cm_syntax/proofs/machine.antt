@@ -1,4 +1,11 @@
--- Laws of the machine.
+-- What the machine does with the tokens of each parse tree, and what follows from it for the grammar.
+pub mod Trace
+pub mod Front
+pub mod ExpressionTrace
+pub mod StatementTrace
+pub mod ProgramTrace
+pub mod OneTree
+mod Rows
 pub mod Written
 pub mod Wanted
 pub mod ExpressionTakes

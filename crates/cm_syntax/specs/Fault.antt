@@ -9,7 +9,8 @@ use Rattle.cm_syntax.specs.declared.stmt.Tree.{Tree}
 use Rattle.cm_syntax.specs.declared.stmt.Program.{Program}
 use Rattle.cm_syntax.specs.Text.{is_same}
 use Rattle.cm_syntax.specs.Refusal.{IsSoundTree}
-use Rattle.cm_syntax.specs.Resolution.{Variable, Role, is_fit, ArgumentForm, value_form, slice_form, Use, mention, call_use, redeclaration, parallel_keyword, return_keyword, function_uses, function_slots, function_scope, declare_items, lookup_function, function_number, resolve_body, resolve_functions}
+use Rattle.cm_syntax.specs.Resolution.{Variable, Role, is_fit, ArgumentForm, value_form, slice_form, any_form, Use, mention, call_use, redeclaration, parallel_keyword, return_keyword, function_uses, function_slots, function_scope, declare_items, lookup_function, function_number, resolve_body, resolve_functions}
+use Rattle.cm_syntax.specs.Limit.{max_frame_words, max_functions, max_parameter_words}
 use Rattle.cm_syntax.specs.Frame.{slots_words, rounded_frame, body_temporaries}
 
 -- What is wrong at an offset. At one offset the variant that stands first here is answered.
@@ -58,9 +59,15 @@ mention_faults at role (Some v) = fault_where (not (is_fit role v.kind)) at kind
 
 -- whether an argument is of another kind than its parameter
 abbrev pub is_misfit : ArgumentForm → Slot → Bool
+is_misfit value_form slot.Scalar = false
+is_misfit value_form (slot.Array words) = false
 is_misfit value_form slot.Slice = true
 is_misfit slice_form slot.Scalar = true
-is_misfit _ _ = false
+is_misfit slice_form (slot.Array words) = false
+is_misfit slice_form slot.Slice = false
+is_misfit any_form slot.Scalar = false
+is_misfit any_form (slot.Array words) = false
+is_misfit any_form slot.Slice = false
 
 abbrev pub has_misfit : List ArgumentForm → List Slot → Bool
 has_misfit (argument ∷ arguments) (parameter ∷ parameters) = is_misfit argument parameter || has_misfit arguments parameters
@@ -75,20 +82,6 @@ call_faults at None arguments wanted = fault_at at unknown ∷ []
 call_faults at (Some callee) arguments wanted =
     fault_where (not (length arguments == length (parameter_slots callee))) at arity ++
     fault_where (has_misfit arguments (parameter_slots callee) || (wanted && not callee.gives)) at kind
-
--- ---- limits
-
--- the words of a frame
-abbrev pub max_frame_words : ℕ
-max_frame_words = 32768
-
--- the functions of a program
-abbrev pub max_functions : ℕ
-max_functions = 256
-
--- the words of a function's parameters
-abbrev pub max_parameter_words : ℕ
-max_parameter_words = 8
 
 -- ---- faults of mentions and functions
 

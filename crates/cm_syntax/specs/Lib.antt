@@ -1,3 +1,4 @@
+pub mod Limit
 pub mod Word
 pub mod Shape
 pub mod Expr
@@ -13,5 +14,6 @@ pub mod Machine
 pub mod Canonical
 pub mod Offset
 pub mod Resolution
+pub mod Number
 pub mod Fault
 pub mod Row

@@ -27,7 +27,8 @@ use Rattle.cm_syntax.specs.Text.{is_same, keyword_text, sign_text}
 use Rattle.cm_syntax.specs.Token.{Token, LocatedToken}
 use Rattle.cm_syntax.specs.ParseTree.{Mark, Offset, level_of}
 use Rattle.cm_syntax.specs.Yield.{Quantity}
-use Rattle.cm_syntax.specs.Refusal.{Refusal, max_source_bytes, is_opening, is_closing}
+use Rattle.cm_syntax.specs.Limit.{max_source_bytes, max_depth, max_open_brackets, max_operators, max_literal, max_array_words}
+use Rattle.cm_syntax.specs.Refusal.{Refusal, is_opening, is_closing}
 
 -- ---- tokens
 
@@ -466,16 +467,16 @@ pub record NestedToken : Type 0 where
 abbrev pub nested_tokens : (opened closed : ℕ) → List LocatedToken → List NestedToken
 nested_tokens opened closed [] = []
 nested_tokens opened closed (t ∷ tokens) =
-    record { located = t; too_nested = is_opening t.token && nat_lt 64 (opened + 1 - closed) } ∷
+    record { located = t; too_nested = is_opening t.token && nat_lt max_open_brackets (opened + 1 - closed) } ∷
     nested_tokens (if is_opening t.token then opened + 1 else opened) (if is_closing t.token then closed + 1 else closed) tokens
 
 -- whether what is counted is within its limit
 abbrev pub is_within : Quantity → Bool
 is_within Quantity.nothing = true
-is_within (Quantity.depth d) = nat_le d 64
-is_within (Quantity.operators n) = nat_le n 64
-is_within (Quantity.literal literal) = nat_le literal 2147483647
-is_within (Quantity.words n) = nat_lt 0 n && nat_le n 16384
+is_within (Quantity.depth d) = nat_le d max_depth
+is_within (Quantity.operators n) = nat_le n max_operators
+is_within (Quantity.literal literal) = nat_le literal max_literal
+is_within (Quantity.words n) = nat_lt 0 n && nat_le n max_array_words
 
 -- the tokens in front of the first byte that may not be read
 abbrev pub readable : List LocatedToken → List LocatedToken

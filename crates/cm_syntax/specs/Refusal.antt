@@ -6,6 +6,7 @@ use Rattle.cm_syntax.specs.Token.{Token, LocatedToken, Tokens}
 use Rattle.cm_syntax.specs.ParseTree as grammar
 use Rattle.cm_syntax.specs.Yield.{Quantity, CountedToken, program_tokens, located_tokens}
 use Rattle.cm_syntax.specs.Grammar.{IsSourceOf}
+use Rattle.cm_syntax.specs.Limit.{max_source_bytes, max_depth, max_open_brackets, max_operators, max_literal, max_array_words}
 
 -- the tokens are those of a program, whatever its size
 abbrev pub IsProgram : List LocatedToken → Type 0
@@ -40,18 +41,13 @@ Syntax bytes at = StopsAtToken bytes at ⊎ StopsAtEnd bytes at
 
 -- ---- sizes
 
--- the bytes of a source
-abbrev pub max_source_bytes : ℕ
-max_source_bytes = 65536
-
--- more than the limit of 64 blocks and bodies round a statement, 64 operators of one expression between the same
--- brackets, the greatest literal, and 1 to 16,384 words of an array
+-- what is counted at a token is more than its limit; an array of no words is refused too
 abbrev pub IsTooMuch : Quantity → Type 0
 IsTooMuch Quantity.nothing = ⊥
-IsTooMuch (Quantity.depth d) = 64 < d
-IsTooMuch (Quantity.operators n) = 64 < n
-IsTooMuch (Quantity.literal value) = 2147483647 < value
-IsTooMuch (Quantity.words n) = (n ≡ 0) ⊎ (16384 < n)
+IsTooMuch (Quantity.depth d) = max_depth < d
+IsTooMuch (Quantity.operators n) = max_operators < n
+IsTooMuch (Quantity.literal value) = max_literal < value
+IsTooMuch (Quantity.words n) = (n ≡ 0) ⊎ (max_array_words < n)
 
 -- `(` or `[`
 abbrev pub is_opening : Token → Bool
@@ -72,7 +68,7 @@ open_brackets tokens = count_by (λ t. is_opening t.token) tokens - count_by (λ
 
 -- the 65th bracket that is open at once
 abbrev pub IsTooNested : (before : List LocatedToken) → LocatedToken → Type 0
-IsTooNested before token = (is_opening token.token ≡ true) × (64 < open_brackets (before ++ token ∷ []))
+IsTooNested before token = (is_opening token.token ≡ true) × (max_open_brackets < open_brackets (before ++ token ∷ []))
 
 -- A program begins with the tokens up to this offset, whatever its size, and what is counted at the token that
 -- stands there is more than its limit.

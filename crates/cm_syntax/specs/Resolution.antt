@@ -19,7 +19,7 @@ use Rattle.cm_syntax.specs.declared.stmt.Function.{Function}
 use Rattle.cm_syntax.specs.Shape.{Joined, Prefixed, Element, InputAt, IfAlone, IfElse, WhileLoop, ForLoop}
 use Rattle.cm_syntax.specs.Text.{is_same}
 
--- ---- what is known at an offset of a function
+-- ---- what is visible at a point of a function
 
 -- a declared variable, a parameter or a part of a split: its name, its slot and what it is
 pub record Variable : Type 0 where
@@ -27,12 +27,12 @@ pub record Variable : Type 0 where
   pub slot : ℕ
   pub kind : Slot
 
--- What is known at an offset: the variables with the nearest declaration first, the names that the scope round the
--- offset has declared, and the slot of the next declaration.
+-- A point of a function: the variables that are visible there with the nearest declaration first, the names that
+-- the scope round it has declared, and the slot of the next declaration.
 pub record Scope : Type 0 where
   pub visible : List Variable
-  pub here : List Name
-  pub next : ℕ
+  pub declared : List Name
+  pub next_slot : ℕ
 
 -- the variable that a name stands for: that of the nearest declaration
 abbrev pub lookup : List Variable → Name → Option Variable
@@ -43,87 +43,138 @@ abbrev pub hide : Name → List Variable → List Variable
 hide x [] = []
 hide x (v ∷ visible) = if is_same v.name x then visible else v ∷ hide x visible
 
--- what is known before a function's first parameter
+-- before a function's first parameter
 abbrev pub function_scope : Scope
-function_scope = record { visible = []; here = []; next = 0 }
+function_scope = record { visible = []; declared = []; next_slot = 0 }
 
 -- a scope of its own within another one
 abbrev pub inner_scope : Scope → Scope
-inner_scope scope = record { visible = scope.visible; here = []; next = scope.next }
+inner_scope scope = record { visible = scope.visible; declared = []; next_slot = scope.next_slot }
 
--- after a declaration
+-- behind the declaration of a name
 abbrev pub declare_name : Scope → Mark Name → Slot → Scope
 declare_name scope x kind = record {
-  visible = record { name = x.name; slot = scope.next; kind = kind } ∷ scope.visible;
-  here = x.name ∷ scope.here;
-  next = scope.next + 1;
+  visible = record { name = x.name; slot = scope.next_slot; kind = kind } ∷ scope.visible;
+  declared = x.name ∷ scope.declared;
+  next_slot = scope.next_slot + 1;
 }
 
--- the parts of a split are known where its whole isn't
-abbrev pub split_scope : Scope → (whole left right : Mark Name) → Scope
-split_scope scope whole left right =
-    let hidden : Scope = record { visible = hide whole.name scope.visible; here = []; next = scope.next } in
-    declare_name (declare_name hidden left slot.Slice) right slot.Slice
-
--- ---- the slots of a statement's declarations, in the order of the text
-
-abbrev mutual
-  pub statement_slots : Stmt Name → List Slot
-  statement_slots (statement.Declare items) = map (λ item. item.slot) items
-  statement_slots (IfAlone test chosen) = statement_slots chosen
-  statement_slots (IfElse test chosen other) = statement_slots chosen ++ statement_slots other
-  statement_slots (WhileLoop test body) = statement_slots body
-  statement_slots (ForLoop first test step body) = statement_slots first ++ (statement_slots step ++ statement_slots body)
-  statement_slots (statement.Split' whole index left right _ body close) = slot.Slice ∷ slot.Slice ∷ statements_slots body
-  statement_slots (statement.Block' _ body) = statements_slots body
-  statement_slots _ = []
-
-  pub statements_slots : {n : _} → Row_of-Stmt Name n → List Slot
-  statements_slots end_of-Stmt = []
-  statements_slots (more_of-Stmt first more) = statement_slots first ++ statements_slots more
-
-abbrev pub body_slots : List (Stmt Name) → List Slot
-body_slots [] = []
-body_slots (first ∷ more) = statement_slots first ++ body_slots more
-
--- the slots of a function: the parameters, then the declared names and the parts of splits
-abbrev pub function_slots : Function Name → List Slot
-function_slots f = map (λ item. item.slot) f.parameters ++ body_slots f.body
-
--- after declared items
+-- behind declared items
 abbrev pub declare_items : Scope → List (Item Name) → Scope
 declare_items scope [] = scope
 declare_items scope (item ∷ more) = declare_items (declare_name scope item.name item.slot) more
 
--- behind a statement of another block: what it declares isn't known there, but its slots are taken
+-- what the parts of a split of such a variable are
+abbrev pub part_kind : Slot → Slot
+part_kind slot.Scalar = slot.Slice
+part_kind (slot.Array words) = slot.Slice
+part_kind slot.Slice = slot.Slice
+
+-- what the parts of a split are, by the variable that the whole stands for
+abbrev pub part_slot : Option Variable → Slot
+part_slot None = slot.Slice
+part_slot (Some whole) = part_kind whole.kind
+
+-- the scope of a split's parts, round its block: they are visible there, and the whole isn't
+abbrev pub split_scope : Scope → (whole left right : Mark Name) → Scope
+split_scope scope whole left right =
+    let hidden : Scope = record { visible = hide whole.name scope.visible; declared = []; next_slot = scope.next_slot } in
+    let kind = part_slot (lookup scope.visible whole.name) in
+    declare_name (declare_name hidden left kind) right kind
+
+abbrev mutual
+  -- how many slots a statement's declarations have
+  pub slot_count : Stmt Name → ℕ
+  slot_count (statement.Declare items) = length items
+  slot_count (IfAlone test chosen) = slot_count chosen
+  slot_count (IfElse test chosen other) = slot_count chosen + slot_count other
+  slot_count (WhileLoop test body) = slot_count body
+  slot_count (ForLoop first test step body) = slot_count first + (slot_count step + slot_count body)
+  slot_count (statement.Split' whole index left right _ body close) = 2 + slots_count body
+  slot_count (statement.Block' _ body) = slots_count body
+  slot_count _ = 0
+
+  pub slots_count : {n : _} → Row_of-Stmt Name n → ℕ
+  slots_count end_of-Stmt = 0
+  slots_count (more_of-Stmt first more) = slot_count first + slots_count more
+
+-- behind a statement of another block: what it declares isn't visible there, but its slots are taken
 abbrev pub reserve_slots : Scope → Stmt Name → Scope
-reserve_slots scope s = record { visible = scope.visible; here = scope.here; next = scope.next + length (statement_slots s) }
+reserve_slots scope s = record { visible = scope.visible; declared = scope.declared; next_slot = scope.next_slot + slot_count s }
 
 -- behind a statement of the same block
 abbrev pub scope_after : Scope → Stmt Name → Scope
 scope_after scope (statement.Declare items) = declare_items scope items
 scope_after scope s = reserve_slots scope s
 
+-- ---- the slots of declarations, in the order of the text
+
+abbrev mutual
+  pub statement_slots : Scope → Stmt Name → List Slot
+  statement_slots scope (statement.Declare items) = map (λ item. item.slot) items
+  statement_slots scope (IfAlone test chosen) = statement_slots (inner_scope scope) chosen
+  statement_slots scope (IfElse test chosen other) =
+      statement_slots (inner_scope scope) chosen ++ statement_slots (inner_scope (reserve_slots scope chosen)) other
+  statement_slots scope (WhileLoop test body) = statement_slots (inner_scope scope) body
+  statement_slots scope (ForLoop first test step body) =
+      let header = scope_after (inner_scope scope) first in
+      statement_slots (inner_scope scope) first ++ (statement_slots header step ++ statement_slots (inner_scope (reserve_slots header step)) body)
+  statement_slots scope (statement.Split' whole index left right _ body close) =
+      let kind = part_slot (lookup scope.visible whole.name) in
+      kind ∷ kind ∷ statements_slots (inner_scope (split_scope scope whole left right)) body
+  statement_slots scope (statement.Block' _ body) = statements_slots (inner_scope scope) body
+  statement_slots scope _ = []
+
+  pub statements_slots : {n : _} → Scope → Row_of-Stmt Name n → List Slot
+  statements_slots scope end_of-Stmt = []
+  statements_slots scope (more_of-Stmt first more) = statement_slots scope first ++ statements_slots (scope_after scope first) more
+
+abbrev pub body_slots : Scope → List (Stmt Name) → List Slot
+body_slots scope [] = []
+body_slots scope (first ∷ more) = statement_slots scope first ++ body_slots (scope_after scope first) more
+
+-- the slots of a function: the parameters, then the declared names and the parts of splits
+abbrev pub function_slots : Function Name → List Slot
+function_slots f = map (λ item. item.slot) f.parameters ++ body_slots (declare_items function_scope f.parameters) f.body
+
 -- ---- the uses of names
 
--- How a variable's name is used: as a value; with an index; in `len`; as the whole of a split; as the target of an
--- assignment; behind `&`; as the destination of a spawn; alone, as an argument.
+-- How a variable's name is used: its value; an element, which is read or written; in `len`; as the whole of a split;
+-- as the target of an assignment; behind `&`; as the destination of a spawn; alone, as an argument.
 pub data Role : Type 0 where
-  valued indexed measured parted assigned addressed destined given : Role
+  value_read element_read element_write length_read split_whole value_write reference spawn_destination bare_argument : Role
 
 -- whether a variable of this kind may be used so
 abbrev pub is_fit : Role → Slot → Bool
-is_fit given kind = true
-is_fit indexed slot.Scalar = false
-is_fit indexed kind = true
-is_fit measured slot.Scalar = false
-is_fit measured kind = true
-is_fit parted slot.Scalar = false
-is_fit parted kind = true
-is_fit _ slot.Scalar = true
-is_fit _ kind = false
+is_fit value_read slot.Scalar = true
+is_fit value_read (slot.Array words) = false
+is_fit value_read slot.Slice = false
+is_fit element_read slot.Scalar = false
+is_fit element_read (slot.Array words) = true
+is_fit element_read slot.Slice = true
+is_fit element_write slot.Scalar = false
+is_fit element_write (slot.Array words) = true
+is_fit element_write slot.Slice = true
+is_fit length_read slot.Scalar = false
+is_fit length_read (slot.Array words) = true
+is_fit length_read slot.Slice = true
+is_fit split_whole slot.Scalar = false
+is_fit split_whole (slot.Array words) = true
+is_fit split_whole slot.Slice = true
+is_fit value_write slot.Scalar = true
+is_fit value_write (slot.Array words) = false
+is_fit value_write slot.Slice = false
+is_fit reference slot.Scalar = true
+is_fit reference (slot.Array words) = false
+is_fit reference slot.Slice = false
+is_fit spawn_destination slot.Scalar = true
+is_fit spawn_destination (slot.Array words) = false
+is_fit spawn_destination slot.Slice = false
+is_fit bare_argument slot.Scalar = true
+is_fit bare_argument (slot.Array words) = true
+is_fit bare_argument slot.Slice = true
 
--- what an argument is: a value, a slice, or a bare name that stands for nothing, which fits every parameter
+-- what an argument is by its form: a value, a slice, or a bare name that stands for nothing, which fits every parameter
 pub data ArgumentForm : Type 0 where
   value_form slice_form any_form : ArgumentForm
 
@@ -146,7 +197,7 @@ mention_of visible x role = mention x role (lookup visible x.name)
 -- a variable as an argument
 abbrev pub variable_form : Option Variable → ArgumentForm
 variable_form None = any_form
-variable_form (Some v) = if is_fit valued v.kind then value_form else slice_form
+variable_form (Some v) = if is_fit value_read v.kind then value_form else slice_form
 
 abbrev pub argument_form : List Variable → Arg Name → ArgumentForm
 argument_form visible (argument.Value (expression.Scalar x)) = variable_form (lookup visible x.name)
@@ -161,9 +212,9 @@ argument_forms visible (more_of-Arg first more) = argument_form visible first �
 abbrev mutual
   pub expression_uses : List Variable → Expr Name → List Use
   expression_uses visible (expression.Number value) = []
-  expression_uses visible (expression.Scalar x) = mention_of visible x valued ∷ []
-  expression_uses visible (Element a index) = mention_of visible a indexed ∷ expression_uses visible index
-  expression_uses visible (expression.Len a) = mention_of visible a measured ∷ []
+  expression_uses visible (expression.Scalar x) = mention_of visible x value_read ∷ []
+  expression_uses visible (Element a index) = mention_of visible a element_read ∷ expression_uses visible index
+  expression_uses visible (expression.Len a) = mention_of visible a length_read ∷ []
   expression_uses visible (InputAt index) = expression_uses visible index
   expression_uses visible expression.Inputs = []
   expression_uses visible (Prefixed op operand) = expression_uses visible operand
@@ -175,10 +226,10 @@ abbrev mutual
   arguments_uses visible (more_of-Arg first more) = argument_uses visible first ++ arguments_uses visible more
 
   pub argument_uses : List Variable → Arg Name → List Use
-  argument_uses visible (argument.Value (expression.Scalar x)) = mention_of visible x given ∷ []
+  argument_uses visible (argument.Value (expression.Scalar x)) = mention_of visible x bare_argument ∷ []
   argument_uses visible (argument.Value value) = expression_uses visible value
-  argument_uses visible (argument.Slice a) = mention_of visible a given ∷ []
-  argument_uses visible (argument.Address x) = mention_of visible x addressed ∷ []
+  argument_uses visible (argument.Slice a) = mention_of visible a bare_argument ∷ []
+  argument_uses visible (argument.Address x) = mention_of visible x reference ∷ []
 
 abbrev pub optional_uses : List Variable → Option (Expr Name) → List Use
 optional_uses visible None = []
@@ -191,12 +242,12 @@ call_uses visible wanted (expression.Call' f _ arguments) = call_use f (argument
 call_uses visible wanted _ = []
 
 abbrev pub target_uses : List Variable → Target Name → List Use
-target_uses visible (target.Scalar x) = mention_of visible x assigned ∷ []
-target_uses visible (target.Index a index) = mention_of visible a indexed ∷ expression_uses visible index
+target_uses visible (target.Scalar x) = mention_of visible x value_write ∷ []
+target_uses visible (target.Index a index) = mention_of visible a element_write ∷ expression_uses visible index
 
 -- a name that its scope has already
 abbrev pub redeclaration_uses : Scope → Mark Name → List Use
-redeclaration_uses scope x = if list_any (is_same x.name) scope.here then redeclaration x.at ∷ [] else []
+redeclaration_uses scope x = if list_any (is_same x.name) scope.declared then redeclaration x.at ∷ [] else []
 
 -- an item is known behind its value
 abbrev pub items_uses : Scope → List (Item Name) → List Use
@@ -206,7 +257,7 @@ items_uses scope (item ∷ more) =
 
 abbrev pub spawn_uses : List Variable → (at : ℕ) → Option (Mark Name) → Call Name → List Use
 spawn_uses visible at None call = parallel_keyword at ∷ call_uses visible false (expression.Call call)
-spawn_uses visible at (Some x) call = mention_of visible x destined ∷ parallel_keyword at ∷ call_uses visible true (expression.Call call)
+spawn_uses visible at (Some x) call = mention_of visible x spawn_destination ∷ parallel_keyword at ∷ call_uses visible true (expression.Call call)
 
 abbrev pub has_value : Option (Expr Name) → Bool
 has_value None = false
@@ -229,7 +280,7 @@ abbrev mutual
       statement_uses (inner_scope scope) first ++ (optional_uses header.visible test ++
       (statement_uses header step ++ statement_uses (inner_scope (reserve_slots header step)) body))
   statement_uses scope (statement.Split' whole index left right _ body close) =
-      mention_of scope.visible whole parted ∷ (expression_uses scope.visible index ++
+      mention_of scope.visible whole split_whole ∷ (expression_uses scope.visible index ++
       ((if is_same left.name right.name then redeclaration right.at ∷ [] else []) ++
       statements_uses (inner_scope (split_scope scope whole left right)) body))
   statement_uses scope (statement.Return at value) = return_keyword at (has_value value) ∷ optional_uses scope.visible value
@@ -318,7 +369,7 @@ module _ (functions : List (Function Name)) where
   abbrev pub resolve_items : Scope → List (Item Name) → List (Item ℕ)
   resolve_items scope [] = []
   resolve_items scope (item ∷ more) =
-      record { name = record { name = scope.next; at = item.name.at }; slot = item.slot; first = resolve_optional scope.visible item.first } ∷
+      record { name = record { name = scope.next_slot; at = item.name.at }; slot = item.slot; first = resolve_optional scope.visible item.first } ∷
       resolve_items (declare_name scope item.name item.slot) more
 
   abbrev mutual
@@ -344,7 +395,7 @@ module _ (functions : List (Function Name)) where
         (resolve_statement header step) (resolve_statement (inner_scope (reserve_slots header step)) body)
     resolve_statement scope (statement.Split' whole index left right _ body close) =
         statement.Split (resolve_mark scope.visible whole) (resolve_expression scope.visible index)
-        (record { name = scope.next; at = left.at }) (record { name = scope.next + 1; at = right.at })
+        (record { name = scope.next_slot; at = left.at }) (record { name = scope.next_slot + 1; at = right.at })
         (resolve_statements (inner_scope (split_scope scope whole left right)) body) close
     resolve_statement scope (statement.Return at value) = statement.Return at (resolve_optional scope.visible value)
     resolve_statement scope (statement.Print value) = statement.Print (resolve_expression scope.visible value)

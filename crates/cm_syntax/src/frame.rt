@@ -1,35 +1,18 @@
 //! The words of a function's frame: two that are saved, its slots, and its temporaries.
 ghost use Rattle.std.specs.Prelude.{◌≡◌, ◌+◌, ◌*◌, ◌≤◌, if◌then◌else◌};
 ghost use Rattle.cm_syntax.specs.Frame as frame;
-ghost use Rattle.cm_syntax.specs.Fault.{IsSoundFunction};
+ghost use Rattle.cm_syntax.specs.Limit.{max_frame_words};
 ghost use Rattle.cm_syntax.specs.declared.expr.Expr.TheVariants as expression;
 
 use crate::expr::{Arg, Call, Expr, Op};
 use crate::stmt::{Function, Item, Slot, Stmt, Target};
 
 /// The words of a function's frame: two for the return address and the caller's frame pointer, then its
-/// slots, then its temporaries, rounded up to a multiple of 4. The function stands in a sound program, so
-/// they are at most 32,768. It takes no memory.
+/// slots, then its temporaries, rounded up to a multiple of 4. They have to be within the limit of a frame,
+/// 32,768, as those of every function of a sound program are (`frames_of_sound_programs`). It takes no
+/// memory.
 pub fn frame_words(function: &Function<u32>) -> u32
-    requires { IsSoundFunction function.now }
-    ensures value { result ≡ frame.frame_words function.now }
-    ensures few { result ≤ 32768 }
-{
-    rounded_frame(function)
-}
-
-/// The bytes of a function's frame, 4 for each of its words. The function stands in a sound program. It
-/// takes no memory.
-pub fn frame_bytes(function: &Function<u32>) -> u32
-    requires { IsSoundFunction function.now }
-    ensures { result ≡ 4 * frame.frame_words function.now }
-{
-    4 * frame_words(function)
-}
-
-/// The words of a frame, where they are few.
-fn rounded_frame(function: &Function<u32>) -> u32
-    requires { frame.frame_words function.now ≤ 32768 }
+    requires { frame.frame_words function.now ≤ max_frame_words }
     ensures { result ≡ frame.frame_words function.now }
 {
     let slots = slots_words(function.slots.items());
@@ -37,9 +20,17 @@ fn rounded_frame(function: &Function<u32>) -> u32
     (2 + slots + temporaries + 3) / 4 * 4
 }
 
+/// The bytes of a function's frame, 4 for each of its words, under the same condition. It takes no memory.
+pub fn frame_bytes(function: &Function<u32>) -> u32
+    requires { frame.frame_words function.now ≤ max_frame_words }
+    ensures { result ≡ 4 * frame.frame_words function.now }
+{
+    4 * frame_words(function)
+}
+
 /// The words of all slots.
 fn slots_words(slots: &[Slot]) -> u32
-    requires { frame.slots_words slots.now ≤ 32768 }
+    requires { frame.slots_words slots.now ≤ max_frame_words }
     ensures { result ≡ frame.slots_words slots.now }
 {
     let mut words = 0;
@@ -63,7 +54,7 @@ fn slot_words(slot: Slot) -> u32
 /// The greatest number of temporaries of the statements, one after another.
 #[cycle(statement)]
 fn statements_temporaries(statements: &[Stmt<u32>]) -> u32
-    requires { frame.body_temporaries statements.now ≤ 32768 }
+    requires { frame.body_temporaries statements.now ≤ max_frame_words }
     ensures { result ≡ frame.body_temporaries statements.now }
 {
     let mut most = 0;
@@ -77,7 +68,7 @@ fn statements_temporaries(statements: &[Stmt<u32>]) -> u32
 /// in use.
 #[cycle(statement)]
 fn statement_temporaries(statement: &Stmt<u32>) -> u32
-    requires { frame.statement_temporaries statement.now ≤ 32768 }
+    requires { frame.statement_temporaries statement.now ≤ max_frame_words }
     ensures { result ≡ frame.statement_temporaries statement.now }
 {
     match statement {
@@ -117,7 +108,7 @@ fn statement_temporaries(statement: &Stmt<u32>) -> u32
 
 /// The greatest number of temporaries of the values that declared variables begin with.
 fn items_temporaries(items: &[Item<u32>]) -> u32
-    requires { frame.items_temporaries items.now ≤ 32768 }
+    requires { frame.items_temporaries items.now ≤ max_frame_words }
     ensures { result ≡ frame.items_temporaries items.now }
 {
     let mut most = 0;
@@ -130,7 +121,7 @@ fn items_temporaries(items: &[Item<u32>]) -> u32
 /// The temporaries of an assignment. The value of an element begins with the element's address in a
 /// temporary.
 fn assignment_temporaries(target: &Target<u32>, value: &Expr<u32>) -> u32
-    requires { frame.assignment_temporaries target.now value.now ≤ 32768 }
+    requires { frame.assignment_temporaries target.now value.now ≤ max_frame_words }
     ensures { result ≡ frame.assignment_temporaries target.now value.now }
 {
     match target {
@@ -141,7 +132,7 @@ fn assignment_temporaries(target: &Target<u32>, value: &Expr<u32>) -> u32
 
 /// The temporaries of an expression that may not be there, which begins with none in use.
 fn optional_temporaries(value: &Option<Expr<u32>>) -> u32
-    requires { frame.optional_temporaries value.now ≤ 32768 }
+    requires { frame.optional_temporaries value.now ≤ max_frame_words }
     ensures { result ≡ frame.optional_temporaries value.now }
 {
     match value {
@@ -154,7 +145,7 @@ fn optional_temporaries(value: &Option<Expr<u32>>) -> u32
 /// use before.
 #[cycle(expression)]
 fn temporaries(value: &Expr<u32>, depth: u32) -> u32
-    requires { frame.temporaries value.now depth ≤ 32768 }
+    requires { frame.temporaries value.now depth ≤ max_frame_words }
     ensures { result ≡ frame.temporaries value.now depth }
 {
     match value {
@@ -176,7 +167,7 @@ fn temporaries(value: &Expr<u32>, depth: u32) -> u32
 /// The temporaries in use before the right operand: one more than before the left one, which is kept,
 /// unless the operator stops early.
 fn right_depth(op: Op, depth: u32) -> u32
-    requires { depth ≤ 32768 }
+    requires { depth ≤ max_frame_words }
     ensures { result ≡ if frame.is_short_circuit op then depth else depth + 1 }
 {
     match op {
@@ -188,7 +179,7 @@ fn right_depth(op: Op, depth: u32) -> u32
 /// The same as `temporaries` of a call, whose arguments are kept from temporary `depth` on.
 #[cycle(expression)]
 fn call_temporaries(call: &Call<u32>, depth: u32) -> u32
-    requires { frame.temporaries (expression.Call call.now) depth ≤ 32768 }
+    requires { frame.temporaries (expression.Call call.now) depth ≤ max_frame_words }
     ensures { result ≡ frame.temporaries (expression.Call call.now) depth }
 {
     let mut used = depth;
@@ -203,7 +194,7 @@ fn call_temporaries(call: &Call<u32>, depth: u32) -> u32
 /// The same of an argument, with `depth` in use before it.
 #[cycle(expression)]
 fn argument_temporaries(argument: &Arg<u32>, depth: u32) -> u32
-    requires { frame.argument_temporaries argument.now depth ≤ 32768 }
+    requires { frame.argument_temporaries argument.now depth ≤ max_frame_words }
     ensures { result ≡ frame.argument_temporaries argument.now depth }
 {
     match argument {

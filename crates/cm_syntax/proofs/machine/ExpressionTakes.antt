@@ -20,7 +20,8 @@ use Rattle.cm_syntax.specs.ParseTree.{Mark, Offset, is_unary, level_of, Expressi
 use Rattle.cm_syntax.specs.ParseTree as grammar
 use Rattle.cm_syntax.specs.Yield.{Quantity, sign_of}
 use Rattle.cm_syntax.specs.Machine.{State, Next, goes, stops, on, step, is_sign, is_word, whole, value, operator_of, operator_step, operand_step, value_step, argument_step, call, call_of, name_step}
-use Rattle.cm_syntax.proofs.Spelling.{sign_written, sign_written-text, keyword_written, keyword_written-text, is_same-equal}
+use Rattle.cm_syntax.proofs.machine.Front.{sign_token, word_token}
+use Rattle.cm_syntax.proofs.machine.ExpressionTrace.{level_bounds, unary_level}
 use Rattle.cm_syntax.proofs.machine.Written.{sign_then, name_then, expression_then, argument_then, any_then, optional_then}
 use Rattle.cm_syntax.proofs.machine.Wanted.{Begins, begins, AtLeast, at_least_then, Tail, tail_then, Closed, closed_then, FirstArguments, first_arguments_then, NextArguments, next_arguments_then, MoreArguments, more_arguments_then, OperandName, operand_name_then, Continues}
 
@@ -30,24 +31,6 @@ Enters (goes q next) w = Continues next w
 Enters stops w = ⊥
 
 -- ---- tests of a token
-
-found_sign : (s : Sign) (token : Token) → is_sign s token ≡ true → token ≡ Token.sign s
-found_sign s (Token.sign t) h =
-    let texts : sign_text s ≡ sign_text t = is_same-equal (sign_text s) (sign_text t) h in
-    let found : Some t ≡ Some s = sym (sign_written-text t) ∙ (ap sign_written (sym texts) ∙ sign_written-text s) in cc
-found_sign s (Token.keyword k) h = absurd (false≢true h)
-found_sign s (Token.name x) h = absurd (false≢true h)
-found_sign s (Token.number v) h = absurd (false≢true h)
-found_sign s Token.unfit h = absurd (false≢true h)
-
-found_word : (k : Keyword) (token : Token) → is_word k token ≡ true → token ≡ Token.keyword k
-found_word k (Token.keyword j) h =
-    let texts : keyword_text k ≡ keyword_text j = is_same-equal (keyword_text k) (keyword_text j) h in
-    let found : Some j ≡ Some k = sym (keyword_written-text j) ∙ (ap keyword_written (sym texts) ∙ keyword_written-text k) in cc
-found_word k (Token.sign s) h = absurd (false≢true h)
-found_word k (Token.name x) h = absurd (false≢true h)
-found_word k (Token.number v) h = absurd (false≢true h)
-found_word k Token.unfit h = absurd (false≢true h)
 
 by_test : (b : Bool) (token found : Token) (x y : Next) (w : List LocatedToken) (C : Token → Type 0) →
     (b ≡ true → token ≡ found) → (Enters x w → C found) → (Enters y w → C token) → Enters (if b then x else y) w → C token
@@ -62,26 +45,14 @@ by_either false x y w f g h = g h
 -- what a token does where it is this sign, and where not
 pub by_sign : (s : Sign) (token : Token) (x y : Next) (w : List LocatedToken) (C : Token → Type 0) →
     (Enters x w → C (Token.sign s)) → (Enters y w → C token) → Enters (if is_sign s token then x else y) w → C token
-by_sign s token x y w C f g h = by_test (is_sign s token) token (Token.sign s) x y w C (λ e. found_sign s token e) f g h
+by_sign s token x y w C f g h = by_test (is_sign s token) token (Token.sign s) x y w C (λ e. sign_token s token e) f g h
 
 -- what a token does where it is this word, and where not
 pub by_word : (k : Keyword) (token : Token) (x y : Next) (w : List LocatedToken) (C : Token → Type 0) →
     (Enters x w → C (Token.keyword k)) → (Enters y w → C token) → Enters (if is_word k token then x else y) w → C token
-by_word k token x y w C f g h = by_test (is_word k token) token (Token.keyword k) x y w C (λ e. found_word k token e) f g h
+by_word k token x y w C f g h = by_test (is_word k token) token (Token.keyword k) x y w C (λ e. word_token k token e) f g h
 
 -- ---- an operator and its operand behind an expression
-
-binary_level : (o : Op) → is_unary o ≡ false → level_of o ≤ 10
-binary_level op.Neg e = absurd (true≢false e)
-binary_level op.Not e = absurd (true≢false e)
-binary_level op.Flip e = absurd (true≢false e)
-binary_level _ e = omega arith
-
-unary_level : (o : Op) → is_unary o ≡ true → level_of o ≡ 11
-unary_level op.Neg e = refl
-unary_level op.Not e = refl
-unary_level op.Flip e = refl
-unary_level _ e = absurd (false≢true e)
 
 record Inserted (level : ℕ) {first : ℕ} (e : Expression first) (o : Op) (at : Offset) {last : ℕ} (right : Expression last) : Type 0 where
   own : ℕ
@@ -95,7 +66,7 @@ module _ (o : Op) (binary : is_unary o ≡ false) (at : Offset) {last : ℕ} (ri
 
   insert : {own : ℕ} (level : ℕ) (e : Expression own) → level ≤ own → level ≤ level_of o → Inserted level e o at right
   insert level (Expression.prefixed p unary star operand close) le low =
-      direct level (Expression.prefixed p unary star operand close) (omega (arith, binary_level o binary, unary_level p unary)) low
+      direct level (Expression.prefixed p unary star operand close) (omega (arith, (level_bounds o).1 binary, unary_level p unary)) low
   insert level (Expression.joined p other left close offset inner tight) le low =
       by_level (nat_lt (level_of p) (level_of o)) refl (λ deeper. insert (level_of p + 1) inner (omega (arith, tight)) deeper)
     where
@@ -110,7 +81,7 @@ module _ (o : Op) (binary : is_unary o ≡ false) (at : Offset) {last : ℕ} (ri
             made = Expression.joined p other left close offset deep.made high;
             same = λ rest. ap (λ x. expression_then left (sign_then (sign_of p) offset x)) (deep.same rest);
           }
-  insert level e le low = direct level e (omega (arith, binary_level o binary)) low
+  insert level e le low = direct level e (omega (arith, (level_bounds o).1 binary)) low
 
 record Attached (level : ℕ) {first : ℕ} (e : Expression first) (tail : Tail level) : Type 0 where
   own : ℕ
@@ -236,7 +207,7 @@ module _ (level n : ℕ) (e : Expr Name) (k : Expr Name → ℕ → State) (at :
           Continues (State.operators level n e k) (sign_then (sign_of o) at w)
       by_level true b h = begins Tail.end (sign_then (sign_of o) at w) (e, n, passes h)
       by_level false b h = operator_joined o binary (ltb-false (level_of o) level b) w
-          (whole_begins (level_of o + 1) (n + 1) (λ right m. State.operators level m (expression.Binary o e right) k) w (omega (arith, binary_level o binary)) h)
+          (whole_begins (level_of o + 1) (n + 1) (λ right m. State.operators level m (expression.Binary o e right) k) w (omega (arith, (level_bounds o).1 binary)) h)
 
 pub operators_take : (level n : ℕ) (e : Expr Name) (k : Expr Name → ℕ → State) (token : Token) (at : Offset) (w : List LocatedToken) →
     (Enters (step (k e n) token at) w → Continues (k e n) (token_at token at ∷ w)) →
