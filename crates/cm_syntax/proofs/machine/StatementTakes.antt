@@ -109,7 +109,7 @@ pub declared : (at : Offset) (k : Stmt Name → State) (w : List LocatedToken) �
 declared at k w h = by_items w (items_begin [] (λ items. k (statement.Declare items)) w h)
   where
     by_items : (w : List LocatedToken) → Begins items_then (BehindItems (λ items. k (statement.Declare items))) w → Begins declaration_then (BehindStatement k) (word_then keyword.Int at w)
-    by_items w (begins all rest (trees, h)) = begins (record { int_at = at; declarators = all }) rest (statement.Declare trees, h)
+    by_items w (begins all rest (trees, h)) = begins (record { int_at = at; items = all }) rest (statement.Declare trees, h)
 
 -- ---- targets
 

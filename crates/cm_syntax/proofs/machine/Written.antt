@@ -77,7 +77,7 @@ items_then (grammar.Items.last one) rest = item_then one rest
 items_then (grammar.Items.before one comma more) rest = item_then one (sign_then sign.Comma comma (items_then more rest))
 
 abbrev pub declaration_then : Declaration → List LocatedToken → List LocatedToken
-declaration_then d rest = word_then keyword.Int d.int_at (items_then d.declarators rest)
+declaration_then d rest = word_then keyword.Int d.int_at (items_then d.items rest)
 
 abbrev pub target_then : grammar.Target → List LocatedToken → List LocatedToken
 target_then (grammar.Target.scalar x) rest = name_then x rest
@@ -211,7 +211,7 @@ items_same (grammar.Items.last one) rest = item_same one rest
 items_same (grammar.Items.before one comma more) rest = rw (item_same one, items_same more, regroup) refl
 
 declaration_same : (first : Quantity) (d : Declaration) (rest : List LocatedToken) → declaration_then d rest ≡ located_tokens (declaration_tokens first d) ++ rest
-declaration_same first d rest = rw (items_same d.declarators) refl
+declaration_same first d rest = rw (items_same d.items) refl
 
 target_same : (first : Quantity) (t : grammar.Target) (rest : List LocatedToken) → target_then t rest ≡ located_tokens (target_tokens first t) ++ rest
 target_same first (grammar.Target.scalar x) rest = refl
