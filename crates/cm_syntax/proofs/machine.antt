@@ -12,3 +12,4 @@ pub mod ExpressionTakes
 pub mod StatementTakes
 pub mod PlainTakes
 pub mod Takes
+pub mod Reached
