@@ -8,3 +8,10 @@ pub mod OneTree
 pub mod NumberCap
 pub mod Run
 mod Rows
+pub mod Written
+pub mod Wanted
+pub mod ExpressionTakes
+pub mod StatementTakes
+pub mod PlainTakes
+pub mod Takes
+pub mod Reached
