@@ -6,7 +6,6 @@ pub mod StatementTrace
 pub mod ProgramTrace
 pub mod OneTree
 pub mod NumberCap
-pub mod Run
 mod Rows
 pub mod Written
 pub mod Wanted
@@ -15,3 +14,5 @@ pub mod StatementTakes
 pub mod PlainTakes
 pub mod Takes
 pub mod Reached
+pub mod Run
+pub mod Answer

@@ -11,24 +11,7 @@ use Rattle.cm_syntax.specs.ParseTree.{Offset}
 use Rattle.cm_syntax.specs.Yield.{Quantity, CountedToken, located_tokens}
 use Rattle.cm_syntax.specs.Refusal.{Refusal, is_opening, is_closing, open_brackets, IsTooMuch, IsTooNested}
 use Rattle.cm_syntax.specs.Machine.{State, Next, goes, stops, step, finish, is_within, readable, nested_tokens, Answer, refused, end_answer, token_answer, run}
-use Rattle.cm_syntax.proofs.machine.Trace.{Trace, trace, next_trace, taken, regroup}
-
--- ---- tokens that are taken
-
--- the machine takes these tokens with these counts, and comes to this state
-abbrev pub Takes : State → List CountedToken → State → Type 0
-Takes s [] last = s ≡ last
-Takes s (t ∷ tokens) last = (next : State) × (step s t.located.token t.located.at ≡ goes t.quantity next) × Takes next tokens last
-
-pub takes-append : (s next last : State) (a b : List CountedToken) → Takes s a next → Takes next b last → Takes s (a ++ b) last
-takes-append s next last [] b h j = subst (λ x. Takes x b last) (sym h) j
-takes-append s next last (t ∷ a) b h j = (h.0, h.1, takes-append h.0 next last a b h.2 j)
-
--- the trace of tokens that are taken
-pub taken_trace : (s last : State) (tokens : List CountedToken) (rest : List LocatedToken) → Takes s tokens last → trace s (located_tokens tokens ++ rest) ≡ taken tokens (trace last rest)
-taken_trace s last [] rest h = ap (λ x. trace x rest) h
-taken_trace s last (t ∷ tokens) rest h =
-    ap (λ x. next_trace x t.located.at (λ next. trace next (located_tokens tokens ++ rest))) h.1 ∙ ap (Trace.took t.quantity) (taken_trace h.0 last tokens rest h.2)
+use Rattle.cm_syntax.proofs.machine.Reached.{Reached}
 
 -- ---- limits
 
@@ -139,7 +122,7 @@ pub record Front (s : State) (before : List LocatedToken) (tokens : List Located
   pub front : List CountedToken
   pub last : State
   pub parts : tokens ≡ located_tokens front ++ behind
-  pub takes : Takes s front last
+  pub reached : Reached s front last
   pub within : AllWithin before front
 
 -- what an answer of the machine says
@@ -161,7 +144,7 @@ one_more length s next before t quantity tokens behind e small flat f = record {
   front = record { located = t; quantity = quantity } ∷ f.front;
   last = f.last;
   parts = ap (λ x. t ∷ x) f.parts;
-  takes = (next, e, f.takes);
+  reached = (next, e, f.reached);
   within = (small, flat, f.within);
 }
 
@@ -175,7 +158,7 @@ more_before length s next before t quantity tokens answer e small flat (exceeded
 more_before length s next before t quantity tokens answer e small flat (ended after f none) = ended after (one_more length s next before t quantity tokens after e small flat f) none
 
 abbrev nothing_taken : (s : State) (before tokens : List LocatedToken) → Front s before tokens tokens
-nothing_taken s before tokens = record { front = []; last = s; parts = refl; takes = refl; within = tt }
+nothing_taken s before tokens = record { front = []; last = s; parts = refl; reached = refl; within = tt }
 
 -- a token that isn't within the limits
 beyond : (before : List LocatedToken) (t : LocatedToken) (quantity : Quantity) → (is_within quantity && not (nests before t)) ≡ false → IsTooMuch quantity ⊎ IsTooNested before t
