@@ -6,4 +6,13 @@ pub mod StatementTrace
 pub mod ProgramTrace
 pub mod OneTree
 pub mod NumberCap
-mod Rows
+pub mod Written
+pub mod Wanted
+pub mod ExpressionTakes
+pub mod StatementTakes
+pub mod PlainTakes
+pub mod Takes
+pub mod Reached
+pub mod Run
+pub mod Answer
+pub mod SourceText
