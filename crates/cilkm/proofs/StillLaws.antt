@@ -15,7 +15,7 @@ use Rattle.cilkm.specs.declared.command.Command.TheVariants.{Serial}
 use Rattle.cilkm.specs.declared.verdict.Refusal.TheVariants.{Syntax}
 use Rattle.cilkm.specs.declared.verdict.Verdict.{Verdict}
 use Rattle.cilkm.specs.declared.verdict.Verdict.TheVariants.{Usage, Read, Long, Refused, Value, Memory}
-use Rattle.cilkm.specs.Verdict.{Means, IsCaused, Says, BreaksOff, Tells}
+use Rattle.cilkm.specs.Verdict.{Means, IsCaused, Says, GoesOut, Tells}
 use Rattle.cilkm.proofs.HartLaws.{stack_start}
 use Rattle.cilkm.proofs.OneTree.{one_form}
 
@@ -44,7 +44,7 @@ cause_from_bytes (Value run) bytes (Some all) before now means told = (search ru
 -- what was said has its cause too, since want of memory needs none
 pub answer_with_cause : (verdict : Verdict) (status : ℕ) (command : Option Command) (input old new : Option (List ℕ)) (before now sink_before sink_now : ℕ)
     → IsCaused command input before now verdict → Tells verdict status old new sink_before sink_now
-    → (said : Verdict) × IsCaused command input before now said × (Says said status old new ⊎ BreaksOff said status old new sink_before sink_now)
+    → (said : Verdict) × IsCaused command input before now said × GoesOut said status old new sink_before sink_now
 answer_with_cause verdict status command input old new before now sink_before sink_now caused (said, inl same, told) =
     (said, subst (IsCaused command input before now) (sym same) caused, told)
 answer_with_cause verdict status command input old new before now sink_before sink_now caused (said, inr memory, told) =

@@ -89,10 +89,14 @@ pub record BreaksOff (verdict : Verdict) (status : ℕ) (old new : Option (List 
   pub rose : Rose before now
   pub front : TookFront old new (verdict_text verdict)
 
--- the verdict, or want of memory, was said, or its text broke off
+-- the verdict's text went out: whole, with its status, or a front of it, with status 6
+abbrev pub GoesOut : (verdict : Verdict) → (status : ℕ) → (old new : Option (List ℕ)) → (before now : ℕ) → Type 0
+GoesOut verdict status old new before now = Says verdict status old new ⊎ BreaksOff verdict status old new before now
+
+-- the text of the verdict, or of want of memory, went out
 abbrev pub Tells : (verdict : Verdict) → (status : ℕ) → (old new : Option (List ℕ)) → (before now : ℕ) → Type 0
 Tells verdict status old new before now =
-    (said : Verdict) × ((said ≡ verdict) ⊎ (said ≡ Memory)) × (Says said status old new ⊎ BreaksOff said status old new before now)
+    (said : Verdict) × ((said ≡ verdict) ⊎ (said ≡ Memory)) × GoesOut said status old new before now
 
 -- a status that the words and the input decide: none of 5, 6 and 7
 pub record IsDecided (status : ℕ) : Type 0 where

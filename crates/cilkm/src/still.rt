@@ -8,7 +8,7 @@ ghost use Rattle.cilkm.specs.Run.{Run, IsRunOf};
 ghost use Rattle.cilkm.specs.declared.command.Command.TheVariants as commands;
 ghost use Rattle.cilkm.specs.declared.verdict.Verdict.{Verdict};
 ghost use Rattle.cilkm.specs.declared.verdict.Verdict.TheVariants as verdicts;
-ghost use Rattle.cilkm.specs.Verdict.{texts, command_of, max_input, verdict_text, verdict_status, Means, IsCaused, Says, BreaksOff, Tells, IsDecided};
+ghost use Rattle.cilkm.specs.Verdict.{texts, command_of, max_input, verdict_text, Means, IsCaused, Says, GoesOut, Tells, IsDecided};
 
 use crate::command::{self, Command};
 use crate::first;
@@ -35,11 +35,10 @@ const PAGE: u32 = 4096;
 /// Does what the words after the program's name say: reads the source, writes the sink, and gives the
 /// status with which the program ends.
 pub fn still<I: Source, O: Sink>(alloc: Global, words: &[&str], source: &mut I, sink: &mut O) -> u8
-    // Some verdict has its cause, and either it was said whole, with its status, or its text broke off, with status 6.
+    // Some verdict has its cause, and its text went out: whole, with its status, or a front of it, with status 6.
     ensures answered { (verdict : Verdict)
         × IsCaused (command_of (texts words.now)) (I.left source.old) (I.faults source.old) (I.faults source.new) verdict
-        × (Says verdict result (O.taken sink.old) (O.taken sink.new)
-        ⊎ BreaksOff verdict result (O.taken sink.old) (O.taken sink.new) (O.faults sink.old) (O.faults sink.new)) }
+        × GoesOut verdict result (O.taken sink.old) (O.taken sink.new) (O.faults sink.old) (O.faults sink.new) }
 
     // Each status but 5, 6 and 7, and its text, is what the words and the input decide.
     ensures exact { IfSome (I.left source.old) (λ input. IsDecided result → (verdict : Verdict)
@@ -130,8 +129,7 @@ fn tell<O: Sink>(alloc: Global, verdict: Verdict, sink: &mut O) -> u8
 /// Writes a verdict's line, and gives the status: 6 where the sink failed.
 fn say<O: Sink>(verdict: &Verdict, text: &[u8], sink: &mut O) -> u8
     requires { text.now ≡ verdict_text verdict.now }
-    ensures says { Says verdict.now result (O.taken sink.old) (O.taken sink.new)
-        ⊎ BreaksOff verdict.now result (O.taken sink.old) (O.taken sink.new) (O.faults sink.old) (O.faults sink.new) }
+    ensures said { GoesOut verdict.now result (O.taken sink.old) (O.taken sink.new) (O.faults sink.old) (O.faults sink.new) }
     ensures kept { O.faults sink.old ≤ O.faults sink.new }
 {
     match write_all(sink, text) {

@@ -12,7 +12,7 @@ fn list_of<T: Copy>(alloc: Global, items: &[T]) -> Result<List<T>, Memory> {
     Ok(list)
 }
 
-/// What the program answers over streams in memory: its status, and what the sink took.
+/// How streams in memory behave: the most bytes that a call moves, and the number of the call that fails.
 #[derive(Clone, Copy)]
 struct Streams {
     give: usize,
@@ -29,6 +29,7 @@ const CALM: Streams = Streams {
     write_fails: 0,
 };
 
+/// What the program answers over streams in memory: its status, and what the sink took.
 fn answer(
     alloc: Global,
     words: &[&str],
