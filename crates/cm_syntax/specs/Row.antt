@@ -81,3 +81,44 @@ update_operators (_ ∷ more) = update_operators more
 -- the source is one function, whose updates are by these operators
 abbrev pub UpdatesBy : (source : List ℕ) → List Op → Type 0
 UpdatesBy source ops = (f : Function Name) × HasFunctions source (f ∷ []) × (update_operators f.body ≡ ops)
+
+-- the source has a tree and is refused nowhere
+abbrev pub IsAccepted : (source : List ℕ) → Type 0
+IsAccepted source = (tree : Tree) × IsSourceOf source tree × IsSoundTree tree
+
+-- `main` that prints these
+abbrev pub printing : List (List ℕ) → List ℕ
+printing [] = codes "return 0; }"
+printing (value ∷ values) = codes "print(" ++ (value ++ (codes "); " ++ printing values))
+
+-- the canonical text of that
+abbrev pub printing_text : List (List ℕ) → List ℕ
+printing_text [] = codes "return 0 ; }"
+printing_text (value ∷ values) = codes "print ( " ++ (value ++ (codes " ) ; " ++ printing_text values))
+
+-- values and how they are printed
+abbrev pub ArePrintedAs : (values texts : List (List ℕ)) → Type 0
+ArePrintedAs values texts = IsPrintedAs (codes "int main() { " ++ printing values) (codes "int main ( ) { " ++ printing_text texts)
+
+-- The first operator binds tighter than the second one: parentheses are kept round the second one's operands alone.
+abbrev pub BindsTighter : (tight loose : List ℕ) → Type 0
+BindsTighter tight loose =
+    ArePrintedAs
+    ((codes "(1" ++ (loose ++ (codes "2)" ++ (tight ++ codes "3")))) ∷ (codes "1" ++ (loose ++ (codes "(2" ++ (tight ++ codes "3)")))) ∷
+    (codes "(1" ++ (tight ++ (codes "2)" ++ (loose ++ codes "3")))) ∷ (codes "1" ++ (tight ++ (codes "(2" ++ (loose ++ codes "3)")))) ∷ [])
+    ((codes "( 1 " ++ (loose ++ (codes " 2 ) " ++ (tight ++ codes " 3")))) ∷ (codes "1 " ++ (loose ++ (codes " 2 " ++ (tight ++ codes " 3")))) ∷
+    (codes "1 " ++ (tight ++ (codes " 2 " ++ (loose ++ codes " 3")))) ∷ (codes "1 " ++ (tight ++ (codes " ( 2 " ++ (loose ++ codes " 3 )")))) ∷ [])
+
+-- The two operators are of one level, and group to the left.
+abbrev pub GroupsLeft : (first second : List ℕ) → Type 0
+GroupsLeft first second =
+    ArePrintedAs
+    ((codes "(1" ++ (first ++ (codes "2)" ++ (second ++ codes "3")))) ∷ (codes "1" ++ (first ++ (codes "(2" ++ (second ++ codes "3)")))) ∷ [])
+    ((codes "1 " ++ (first ++ (codes " 2 " ++ (second ++ codes " 3")))) ∷ (codes "1 " ++ (first ++ (codes " ( 2 " ++ (second ++ codes " 3 )")))) ∷ [])
+
+-- The operator before an operand binds tighter than the one between two.
+abbrev pub PrefixBindsTighter : (unary binary : List ℕ) → Type 0
+PrefixBindsTighter unary binary =
+    ArePrintedAs
+    ((unary ++ (codes "(1" ++ (binary ++ codes "2)"))) ∷ (codes "(" ++ (unary ++ (codes "1)" ++ (binary ++ codes "2")))) ∷ [])
+    ((unary ++ (codes " ( 1 " ++ (binary ++ codes " 2 )"))) ∷ (unary ++ (codes " 1 " ++ (binary ++ codes " 2"))) ∷ [])

@@ -31,7 +31,7 @@ ghost use Rattle.cm_syntax.specs.Limit.{max_frame_words, max_functions, max_sour
 ghost use Rattle.cm_syntax.specs.declared.expr.Op.TheVariants as operators;
 ghost use Rattle.cm_syntax.specs.Shape.{Joined};
 ghost use Rattle.cm_syntax.specs.Expr.{operator_count, value_of};
-ghost use Rattle.cm_syntax.specs.Row.{AreSpelled, literal, IsPrintedAs, HasBody, HasFaults, HasFrames, HasNumbers, UpdatesBy, ResolvesToSlot, IsSoundSource, loops};
+ghost use Rattle.cm_syntax.specs.Row.{AreSpelled, BindsTighter, GroupsLeft, IsAccepted, PrefixBindsTighter, literal, IsPrintedAs, HasBody, HasFaults, HasFrames, HasNumbers, UpdatesBy, ResolvesToSlot, IsSoundSource, loops};
 
 /// A text has exactly one list of tokens.
 pub fn one_token_list()
@@ -279,6 +279,77 @@ pub fn refused_sources()
     ensures operators { Size (codes "int main() { return " ++ replicate 65 126) 84 }
     ensures loops { Size (codes "int main() { " ++ loops 64) 525 }
     ensures too_long { (bytes : List ℕ) → max_source_bytes < length bytes → Size bytes max_source_bytes }
+{}
+
+/// Sources that are refused inside of a body, at the token that doesn't fit there.
+pub fn refused_bodies()
+    ensures no_value { IsAnswer (codes "int main() { int x; if (x) { x = ; } return x; }") Refusal.syntax_ 33 }
+    ensures no_parenthesis { IsAnswer (codes "int main() { while (1 { } }") Refusal.syntax_ 22 }
+    ensures third_part { IsAnswer (codes "int main() { for (;;;) ; }") Refusal.syntax_ 20 }
+    ensures no_comma { IsAnswer (codes "int main() { int a[2]; split a at 1 as l r { } }") Refusal.syntax_ 41 }
+    ensures no_assignment { IsAnswer (codes "int main() { x + 1; }") Refusal.syntax_ 15 }
+    ensures no_argument { IsAnswer (codes "int main() { f(1,); }") Refusal.syntax_ 17 }
+    ensures lone_else { IsAnswer (codes "int main() { else ; }") Refusal.syntax_ 13 }
+    ensures two_values { IsAnswer (codes "int main() { return 1 2; }") Refusal.syntax_ 22 }
+    ensures no_semicolon { IsAnswer (codes "int main() { { int x } }") Refusal.syntax_ 21 }
+    ensures spawned_value { IsAnswer (codes "cilk int main() { x = spawn 1; }") Refusal.syntax_ 28 }
+    ensures no_bracket { IsAnswer (codes "int main() { a[1 = 2; }") Refusal.syntax_ 17 }
+    ensures no_name { IsAnswer (codes "int f(int) { }") Refusal.syntax_ 9 }
+{}
+
+/// Sources that come up to a limit and are refused nowhere; `refused_sources` has those that pass it by one.
+pub fn sources_at_limits()
+    ensures deepest_loop { IsAccepted (codes "int main() { " ++ (loops 63 ++ codes " }")) }
+    ensures most_parentheses { IsAccepted (codes "int main() { return " ++ (replicate 64 40 ++ (codes "1" ++ (replicate 64 41 ++ codes "; }")))) }
+    ensures most_operators { IsAccepted (codes "int main() { return " ++ (replicate 64 126 ++ codes "1; }")) }
+    ensures greatest_literal { IsAccepted (codes "int main() { return 2147483647; }") }
+    ensures least_array { IsAccepted (codes "int main() { int a[1]; return 0; }") }
+    ensures greatest_array { IsAccepted (codes "int main() { int a[16384]; return 0; }") }
+{}
+
+/// Neighbouring levels of operators, each operator among them: which one binds tighter, and that operators of one
+/// level group to the left.
+pub fn levels_of_operators()
+    ensures tighter { BindsTighter (codes "&&") (codes "||") ×
+        BindsTighter (codes "|") (codes "&&") ×
+        BindsTighter (codes "^") (codes "|") ×
+        BindsTighter (codes "&") (codes "^") ×
+        BindsTighter (codes "==") (codes "&") ×
+        BindsTighter (codes "!=") (codes "&") ×
+        BindsTighter (codes "<") (codes "==") ×
+        BindsTighter (codes "<=") (codes "!=") ×
+        BindsTighter (codes ">") (codes "==") ×
+        BindsTighter (codes ">=") (codes "!=") ×
+        BindsTighter (codes "<<") (codes "<") ×
+        BindsTighter (codes ">>") (codes "<=") ×
+        BindsTighter (codes "<<") (codes ">") ×
+        BindsTighter (codes ">>") (codes ">=") ×
+        BindsTighter (codes "+") (codes "<<") ×
+        BindsTighter (codes "-") (codes ">>") ×
+        BindsTighter (codes "*") (codes "+") ×
+        BindsTighter (codes "/") (codes "-") ×
+        BindsTighter (codes "%") (codes "+") }
+    ensures left { GroupsLeft (codes "||") (codes "||") ×
+        GroupsLeft (codes "&&") (codes "&&") ×
+        GroupsLeft (codes "|") (codes "|") ×
+        GroupsLeft (codes "^") (codes "^") ×
+        GroupsLeft (codes "&") (codes "&") ×
+        GroupsLeft (codes "==") (codes "!=") ×
+        GroupsLeft (codes "!=") (codes "==") ×
+        GroupsLeft (codes "<") (codes "<=") ×
+        GroupsLeft (codes "<=") (codes ">") ×
+        GroupsLeft (codes ">") (codes ">=") ×
+        GroupsLeft (codes ">=") (codes "<") ×
+        GroupsLeft (codes "<<") (codes ">>") ×
+        GroupsLeft (codes ">>") (codes "<<") ×
+        GroupsLeft (codes "+") (codes "-") ×
+        GroupsLeft (codes "-") (codes "+") ×
+        GroupsLeft (codes "*") (codes "/") ×
+        GroupsLeft (codes "/") (codes "%") ×
+        GroupsLeft (codes "%") (codes "*") }
+    ensures prefix { PrefixBindsTighter (codes "-") (codes "*") ×
+        PrefixBindsTighter (codes "!") (codes "/") ×
+        PrefixBindsTighter (codes "~") (codes "%") }
 {}
 
 /// All faults of some sources.

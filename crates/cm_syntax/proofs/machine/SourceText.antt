@@ -1,5 +1,6 @@
 -- Short source texts by computing: the machine finds their tokens, their trees and their refused offsets.
 use Rattle.std.proofs.Common.{◌≡◌, ℕ, List, [], ◌∷◌, length, map, refl, subst, arith}
+use Rattle.std.specs.Prelude.{⊤}
 use Rattle.cm_syntax.specs.declared.name.Name.{Name}
 use Rattle.cm_syntax.specs.declared.stmt.Function.{Function}
 use Rattle.cm_syntax.specs.declared.stmt.Tree.{Tree}
@@ -10,7 +11,7 @@ use Rattle.cm_syntax.specs.Refusal.{Refusal, IsAnswer, Size}
 use Rattle.cm_syntax.specs.Resolution.{Variable, ResolvesTo}
 use Rattle.cm_syntax.specs.Number.{function_numbers}
 use Rattle.cm_syntax.specs.Fault.{faults, program_of}
-use Rattle.cm_syntax.specs.Row.{HasFunctions, HasNumbers, ResolvesToSlot, IsSoundSource}
+use Rattle.cm_syntax.specs.Row.{HasFunctions, IsAccepted, HasNumbers, ResolvesToSlot, IsSoundSource}
 use Rattle.cm_syntax.specs.Machine.{Answer, accepted, refused, text_answer}
 use Rattle.cm_syntax.proofs.Lexing.{lexed, lexed_tokens}
 use Rattle.cm_syntax.proofs.machine.Answer.{IsAnswerTo, text_answered}
@@ -59,6 +60,18 @@ has_function {bytes} {P} h = by_answer (answer_to bytes) (answered bytes) h
     by_answer (accepted []) a h = absurd h
     by_answer (accepted (f ∷ [])) a h = (f, (record { functions = f ∷ []; length = length bytes }, a.0, refl), h)
     by_answer (accepted (f ∷ g ∷ more)) a h = absurd h
+    by_answer (refused refusal at) a h = absurd h
+
+-- a text that is accepted
+abbrev pub WasAccepted : Answer → Type 0
+WasAccepted (accepted functions) = ⊤
+WasAccepted (refused refusal at) = ⊥
+
+pub is_accepted : {bytes : List ℕ} → WasAccepted (answer_to bytes) → IsAccepted bytes
+is_accepted {bytes} h = by_answer (answer_to bytes) (answered bytes) h
+  where
+    by_answer : (answer : Answer) → IsAnswerTo bytes answer → WasAccepted answer → IsAccepted bytes
+    by_answer (accepted functions) a h = (record { functions = functions; length = length bytes }, a.0, (bytes, a.0, a.1))
     by_answer (refused refusal at) a h = absurd h
 
 -- a text that is accepted and whose tree has no fault
