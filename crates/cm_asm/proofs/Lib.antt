@@ -1,5 +1,6 @@
 -- Lemmas that several proofs share.
-pub mod ListingLaws
-pub mod ReadingLaws
-pub mod TextLaws
-pub mod AssemblyLaws
+pub mod ListLaw
+pub mod ListingLaw
+pub mod ReadingLaw
+pub mod TextLaw
+pub mod AssemblyLaw

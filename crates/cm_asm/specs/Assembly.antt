@@ -1,13 +1,14 @@
 -- Items, the words that they become, and the items that are refused (RISC-V Unprivileged ISA, RV32I 2.5).
-use Rattle.std.specs.Prelude.{◌≡◌, ℕ, ◌+◌, ◌<◌, ◌≤◌, Bool, false, ◌==◌, List, [], ◌∷◌, ◌++◌, length, take, All, ℤ, pos, ◌-ℤ◌, Option, Some, None, option_to_list, unwrap_or, IsSome, MatchOption, slice_get, sum_by, position, Result, Ok, Err}
+use Rattle.std.specs.Prelude.{◌≡◌, ℕ, ◌+◌, ◌<◌, ◌≤◌, Bool, false, ◌==◌, List, [], ◌∷◌, ◌++◌, length, take, All, ℤ, pos, ◌-ℤ◌, Option, Some, None, option_to_list, option_map, IsSome, MatchOption, slice_get, sum_by, position, Result, Ok, Err}
 use Rattle.cm_isa.specs.Bits.{IsSigned}
 use Rattle.cm_isa.specs.Operation.{Operation, operation}
 use Rattle.cm_isa.specs.Address.{AreWordsOf}
 use Rattle.cm_isa.specs.declared.kind.Kind.{Kind}
 use Rattle.cm_isa.specs.declared.kind.Kind.TheVariants as kinds
 use Rattle.cm_asm.specs.declared.image.Image.{Image}
-use Rattle.cm_asm.specs.declared.items.Item.{Item}
-use Rattle.cm_asm.specs.declared.items.Item.TheVariants.{Plain, Label, Jump, Branch}
+use Rattle.cm_asm.specs.declared.item.TheConstants.{MAX_ITEMS}
+use Rattle.cm_asm.specs.declared.item.Item.{Item}
+use Rattle.cm_asm.specs.declared.item.Item.TheVariants.{Plain, Label, Jump, Branch}
 use Rattle.cm_asm.specs.declared.assembler.AsmRefusal.{AsmRefusal}
 use Rattle.cm_asm.specs.declared.assembler.AsmRefusal.TheVariants as refusals
 
@@ -30,12 +31,12 @@ IsItem (Label n) = Unit {0}
 IsItem (Jump rd n) = rd < 32
 IsItem (Branch kind rs1 rs2 n) = IsBranch kind × (rs1 < 32) × (rs2 < 32)
 
--- items that can be assembled: at most 4,194,304, each with registers and a kind that fit
+-- items that can be assembled: not too many, each with registers and a kind that fit
 pub record AreItems (items : List Item) : Type 0 where
-  pub few : length items ≤ 4194304
+  pub few : length items ≤ MAX_ITEMS
   pub each : All IsItem items
 
--- ---- places and labels
+-- ---- addresses and labels
 
 -- how many bytes an item takes: 4 for its word, and a label none
 abbrev pub size_of : Item → ℕ
@@ -44,9 +45,9 @@ size_of (Label n) = 0
 size_of (Jump rd n) = 4
 size_of (Branch kind rs1 rs2 n) = 4
 
--- the place of the item with this index: after the bytes of all items before it
-abbrev pub place_of : List Item → ℕ → ℕ
-place_of items k = sum_by size_of (take k items)
+-- the address of the item with this index: after the bytes of all items before it
+abbrev pub address_of : List Item → ℕ → ℕ
+address_of items k = sum_by size_of (take k items)
 
 -- the item is a label of this number
 abbrev pub is_label : ℕ → Item → Bool
@@ -61,28 +62,24 @@ label_of items n = position (is_label n) items
 
 -- the distance in bytes from one item to another, by their indexes
 abbrev pub distance : List Item → (from to : ℕ) → ℤ
-distance items from to = pos (place_of items to) -ℤ pos (place_of items from)
-
--- the distance in bytes from an item to the first label of this number, where there is one
-abbrev pub distance_to : List Item → (from n : ℕ) → ℤ
-distance_to items from n = distance items from (unwrap_or (label_of items n) 0)
+distance items from to = pos (address_of items to) -ℤ pos (address_of items from)
 
 -- ---- words
 
 -- the instruction of the item with index k: a jump is `jal`, and a branch its kind, by the distance to the first
--- label of the number; a label has none
+-- label of the number; where there is no such label there is none, and a label has none
 abbrev pub operation_of : List Item → ℕ → Item → Option Operation
 operation_of items k (Plain i) = Some i
 operation_of items k (Label n) = None
-operation_of items k (Jump rd n) = Some (operation kinds.Jal rd 0 0 (distance_to items k n))
-operation_of items k (Branch kind rs1 rs2 n) = Some (operation kind 0 rs1 rs2 (distance_to items k n))
+operation_of items k (Jump rd n) = option_map (λ target. operation kinds.Jal rd 0 0 (distance items k target)) (label_of items n)
+operation_of items k (Branch kind rs1 rs2 n) = option_map (λ target. operation kind 0 rs1 rs2 (distance items k target)) (label_of items n)
 
 -- the instructions of these items, the first of which has index k among all items
 abbrev pub operations_from : List Item → ℕ → List Item → List Operation
 operations_from items k [] = []
 operations_from items k (item ∷ rest) = option_to_list (operation_of items k item) ++ operations_from items (k + 1) rest
 
--- the instructions of all items, one for each but the labels
+-- the instructions of all items, one for each but the labels, where no label is missing
 abbrev pub operations : List Item → List Operation
 operations items = operations_from items 0 items
 
@@ -110,6 +107,10 @@ IsRefused items k (Branch kind rs1 rs2 n) refusal = Misses 13 items k (label_of 
 -- there is an item with index k, and it is refused so
 abbrev pub IsRefusedAt : List Item → ℕ → AsmRefusal → Type 0
 IsRefusedAt items k refusal = MatchOption (slice_get items k) ⊥ (λ item. IsRefused items k item refusal)
+
+-- no item is refused
+abbrev pub AreAccepted : List Item → Type 0
+AreAccepted items = (k : ℕ) (refusal : AsmRefusal) → IsRefusedAt items k refusal → ⊥
 
 -- the items are refused as the first item is that is refused at all
 pub record RefusesFirst (items : List Item) (refusal : AsmRefusal) : Type 0 where

@@ -2,4 +2,4 @@
 pub mod Listing
 pub mod Reading
 pub mod Assembly
-pub mod Labels
+pub mod Label

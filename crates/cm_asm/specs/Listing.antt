@@ -1,5 +1,6 @@
 -- The listing of an image: a line for each word, with its address before it.
 use Rattle.std.specs.Prelude.{◌≡◌, ℕ, zero, suc, ◌+◌, ◌/◌, ◌%◌, ◌^◌, ◌<◌, ◌≤◌, nat_lt, if◌then◌else◌, List, [], ◌∷◌, ◌++◌, length, take, slice_index}
+use Rattle.cm_asm.specs.declared.image.TheConstants.{MAX_WORDS}
 
 -- the character of a hexadecimal digit, in lower case
 abbrev pub hex_digit : ℕ → ℕ
@@ -14,7 +15,7 @@ hex (suc digits) number = hex digits (number / 16) ++ hex_digit (number % 16) �
 unfoldable pub line : (address word : ℕ) → List ℕ
 line address word = hex 8 address ++ (32 ∷ (hex 8 word ++ 10 ∷ []))
 
--- the lines of words that stand from this address on
+-- the lines of words from this address on
 abbrev pub listing_from : (address : ℕ) → List ℕ → List ℕ
 listing_from address [] = []
 listing_from address (word ∷ words) = line address word ++ listing_from (address + 4) words
@@ -23,9 +24,9 @@ listing_from address (word ∷ words) = line address word ++ listing_from (addre
 abbrev pub listing : List ℕ → List ℕ
 listing words = listing_from 0 words
 
--- the words of an image that has a listing: there are at most 4,194,304, of 32 bits each
+-- the words of an image that has a listing: there are not too many, of 32 bits each
 pub record AreWords (words : List ℕ) : Type 0 where
-  pub few : length words ≤ 4194304
+  pub few : length words ≤ MAX_WORDS
   pub each : (k : ℕ) → slice_index words k < 2 ^ 32
 
 -- the text is the listing of some image

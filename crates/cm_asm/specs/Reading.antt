@@ -25,7 +25,7 @@ pub record IsNumberFront (text : List ℕ) (count value : ℕ) : Type 0 where
   pub other : count < 8 → count < length text → IsHexByte (slice_index text count) → ⊥
 
 -- the text leaves the lines of this address after so many bytes: they begin a line of some word, and the byte
--- behind them, if there is one, stands in no line
+-- behind them, if there is one, is in no line
 pub record LeavesLine (address : ℕ) (text : List ℕ) (count : ℕ) : Type 0 where
   pub within : count < 18
   pub inside : count ≤ length text
@@ -50,5 +50,5 @@ Refuses text Memory = Unit {0}
 -- the answer is that the text leaves the listings here, or that there was no memory
 abbrev pub RefusesAt : ℕ → Result Image ListRefusal → Type 0
 RefusesAt at (Ok image) = ⊥
-RefusesAt at (Err (Line place)) = place ≡ at
+RefusesAt at (Err (Line byte)) = byte ≡ at
 RefusesAt at (Err Memory) = Unit {0}

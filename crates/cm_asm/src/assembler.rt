@@ -3,13 +3,13 @@ ghost use Rattle.std.specs.Prelude.{◌≡◌, ◌==◌, ◌<◌, ◌≤◌, ◌
 ghost use Rattle.std.specs.Option.{option_or};
 ghost use Rattle.indexmap.specs.IndexMap.{get};
 ghost use Rattle.cm_isa.specs.Operation.{operation};
-ghost use Rattle.cm_asm.specs.Assembly.{AnswersWith, AreItems, IsAssembled, IsBranch, IsFirstRefusal, RefusesFirst, is_label, place_of, size_of};
+ghost use Rattle.cm_asm.specs.Assembly.{AnswersWith, AreAccepted, AreItems, IsAssembled, IsBranch, IsFirstRefusal, RefusesFirst, is_label, address_of, size_of};
 ghost use Rattle.cm_asm.specs.Listing.{AreWords};
-ghost use Rattle.cm_asm.specs.Labels.{AreLabels, GivesAt, Reaches};
+ghost use Rattle.cm_asm.specs.Label.{AreLabels, GivesAt, Reaches};
 ghost use Rattle.cm_isa.specs.declared.kind.Kind.TheVariants as kinds;
 
 use crate::image::Image;
-use crate::items::Item;
+use crate::item::{Item, MAX_ITEMS};
 use cm_isa::{Instr, Kind, encode};
 use cm_text::{List, Memory};
 use indexmap::IndexMap;
@@ -47,25 +47,26 @@ impl From<Memory> for AsmRefusal {
     }
 }
 
-/// Where an item stands.
+/// Which item it is, and its address.
 #[derive(Clone, Copy, Debug, PartialEq, Eq)]
 pub struct Spot {
     /// Its index.
     pub at: u32,
-    /// Its place, in bytes.
-    pub place: u32,
+    /// Its address, in bytes.
+    pub address: u32,
 }
 
-/// The image of items: one word for each item but a label, in order, from place 0 on. A jump or branch goes to
-/// the first label of its number.
+/// The image of items: one word for each item but a label, in order, from address 0 on. A jump or branch goes
+/// to the first label of its number.
 ///
 /// The first item that is refused decides the refusal. `Label` comes where the label of a jump or branch is
 /// missing, or where a label's number was there before; `Range` where the distance in bytes doesn't fit the
-/// instruction: from -1,048,576 to 1,048,575 for a jump, and from -4,096 to 4,095 for a branch. `Memory` is
-/// want of memory.
+/// instruction. Distances are multiples of 4: a jump reaches 1,048,576 bytes back and 1,048,572 on, and a
+/// branch 4,096 back and 4,092 on. `Memory` is want of memory.
 pub fn assemble(alloc: Global, items: &[Item]) -> Result<Image, AsmRefusal>
     requires { AreItems items.now }
     ensures words { IfOk result (λ image. IsAssembled items.now image.words) }
+    ensures accepted { IfOk result (λ image. AreAccepted items.now) }
     ensures image { IfOk result (λ image. AreWords image.words) }
     ensures refusal { IfErr result (λ refusal. IsFirstRefusal items.now refusal) }
     ensures each_refusal { (refusal : AsmRefusal) → RefusesFirst items.now refusal → AnswersWith refusal result }
@@ -80,20 +81,20 @@ pub fn assemble(alloc: Global, items: &[Item]) -> Result<Image, AsmRefusal>
     Ok(Image { words })
 }
 
-/// The table of labels: for each number where its first label stands.
+/// The table of labels: for each number its first label.
 fn first_labels(alloc: Global, items: &[Item]) -> Result<IndexMap<u32, Spot>, Memory>
-    requires { length items.now ≤ 4194304 }
+    requires { length items.now ≤ MAX_ITEMS }
     ensures { IfOk result (λ labels. AreLabels items.now items.now labels) }
 {
     let mut labels = IndexMap::new(alloc);
-    let mut place = 0;
+    let mut address = 0;
     for (at, item) in items.iter().enumerate() {
         let spot = Spot {
             at: at as u32,
-            place,
+            address,
         };
         note_label(&mut labels, item, spot)?;
-        place += size_of(item);
+        address += size_of(item);
     }
     Ok(labels)
 }
@@ -121,17 +122,17 @@ fn size_of(item: &Item) -> u32
     }
 }
 
-/// The word of the item with this index, whose place is this; a label has none.
+/// The word of the item with this index, whose address is this; a label has none.
 fn word_of(
     items: &[Item],
     labels: &IndexMap<u32, Spot>,
     at: usize,
-    place: u32,
+    address: u32,
 ) -> Result<Option<u32>, AsmRefusal>
     requires items { AreItems items.now }
     requires labels { AreLabels items.now items.now labels.now }
     requires inside { at < length items.now }
-    requires place { place ≡ place_of items.now at }
+    requires address { address ≡ address_of items.now at }
     ensures { GivesAt items.now at result }
 {
     let index = at as u32;
@@ -142,7 +143,7 @@ fn word_of(
             _ => Ok(None),
         },
         Item::Jump { rd, label } => match labels.get(&label) {
-            Some(spot) => jump(rd, offset(spot.place, place), index),
+            Some(spot) => jump(rd, distance_between(spot.address, address), index),
             None => Err(AsmRefusal::Label { at: index }),
         },
         Item::Branch {
@@ -151,14 +152,20 @@ fn word_of(
             rs2,
             label,
         } => match labels.get(&label) {
-            Some(spot) => branch(kind, rs1, rs2, offset(spot.place, place), index),
+            Some(spot) => branch(
+                kind,
+                rs1,
+                rs2,
+                distance_between(spot.address, address),
+                index,
+            ),
             None => Err(AsmRefusal::Label { at: index }),
         },
     }
 }
 
-/// The distance from one place to another.
-fn offset(to: u32, from: u32) -> i64
+/// The distance from one address to another.
+fn distance_between(to: u32, from: u32) -> i64
     requires to { to % 4 ≡ 0 }
     requires from { from % 4 ≡ 0 }
     ensures distance { result ≡ pos to -ℤ pos from }

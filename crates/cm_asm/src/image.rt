@@ -1,7 +1,10 @@
 //! The words of a program.
 use cm_text::List;
 
-/// The words of a program, which stand in memory from address 0 on, 4 bytes each.
+/// The most words of an image that can be listed.
+pub const MAX_WORDS: usize = 4_194_304;
+
+/// The words of a program, whose addresses go from 0 on, 4 bytes each.
 #[derive(Debug, Drop)]
 pub struct Image {
     /// The words in order.

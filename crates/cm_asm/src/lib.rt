@@ -3,15 +3,15 @@
 
 mod assembler;
 mod image;
-mod items;
-mod laws;
+mod item;
+mod law;
 mod listing;
 mod reading;
 
 pub use assembler::{AsmRefusal, assemble};
-pub use image::Image;
-pub use items::Item;
-pub use laws::one_image_per_listing;
+pub use image::{Image, MAX_WORDS};
+pub use item::{Item, MAX_ITEMS};
+pub use law::one_image_per_listing;
 pub use listing::list;
 pub use reading::{ListRefusal, unlist};
 

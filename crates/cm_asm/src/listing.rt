@@ -2,14 +2,14 @@
 ghost use Rattle.std.specs.Prelude.{◌≡◌, ◌<◌, ◌≤◌, ◌++◌, length, IfOk, OnOk};
 ghost use Rattle.cm_asm.specs.Listing.{AreWords, hex, hex_digit, line, listing};
 
-use crate::image::Image;
+use crate::image::{Image, MAX_WORDS};
 use cm_text::{Bytes, List, Memory};
 use std::alloc::Global;
 
 /// The listing of an image: a line for each word, with its address, a space, the word and a line feed.
 /// Both numbers have eight hexadecimal digits in lower case. `Memory` is want of memory.
 pub fn list(alloc: Global, image: &Image) -> Result<Bytes, Memory>
-    requires { length image.now.words ≤ 4194304 }
+    requires { length image.now.words ≤ MAX_WORDS }
     ensures text { IfOk result (λ text. text ≡ listing image.now.words) }
     ensures words { AreWords image.now.words }
 {

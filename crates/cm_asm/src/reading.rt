@@ -3,7 +3,7 @@ ghost use Rattle.std.specs.Prelude.{◌≡◌, ℕ, ◌<◌, take, IfOk, IfErr, 
 ghost use Rattle.cm_asm.specs.Listing.{AreWords, LeavesAt, hex, hex_digit, line, listing};
 ghost use Rattle.cm_asm.specs.Reading.{Agrees, IsHexByte, IsNumberFront, LeavesLine, ReadsEach, Refuses, RefusesAt};
 
-use crate::image::Image;
+use crate::image::{Image, MAX_WORDS};
 use crate::listing::hex_digit;
 use cm_text::{List, Memory};
 use std::alloc::Global;
@@ -33,9 +33,6 @@ impl From<Memory> for ListRefusal {
     }
 }
 
-// How many words a listing has at most.
-const MOST_WORDS: usize = 4_194_304;
-
 /// The image whose listing the text is. `Line` comes exactly where the text is the listing of no image, at the
 /// first byte that no listing of at most 4,194,304 words has there; a text that ends inside a line is refused
 /// at its length. `Memory` is want of memory.
@@ -50,7 +47,7 @@ pub fn unlist(alloc: Global, text: &[u8]) -> Result<Image, ListRefusal>
     let mut words = List::new(alloc);
     let mut at = 0;
     while at < text.len() {
-        if words.len() == MOST_WORDS {
+        if words.len() == MAX_WORDS {
             return Err(ListRefusal::Line { at: at as u32 });
         }
         match read_line(&text[at..], 4 * words.len() as u32) {

@@ -1,4 +1,10 @@
-//! Steps of a short program to its `ecall`, and each way to stop.
+//! Steps of a short program to its `ecall`, and each way to stop; and steps over words whose owner knows
+//! more of them than a step sees.
+ghost use Rattle.std.specs.Prelude.{◌≡◌, length, slice_index};
+ghost use Rattle.cm_isa.specs.Address.{InstructionAt};
+ghost use Rattle.cm_isa.specs.Operation.{Operation};
+ghost use Rattle.cm_isa.specs.View.{slice_view};
+ghost use Rattle.cm_hart.specs.Step.{HasHartOutcome, MayStep, hart_outcome};
 
 use super::{Halt, Hart, step};
 use cm_asm::Image;
@@ -104,4 +110,103 @@ fn steps(rt: HostRuntime) -> Result<(), Fail> {
         assert_eq!(rt; memory.words, [9, 6, 9, 9]);
     }
     Ok(())
+}
+
+/// Words in pages of four, which a list of page numbers shows in its order, from address 0 on. The list
+/// and the tag are the owner's.
+#[derive(Drop)]
+struct Paged {
+    pages: Vec<u8>,
+    tag: u32,
+    words: [u32; 16],
+}
+
+impl Words for Paged {
+    ghost use Rattle.std.specs.Prelude.{ℕ, List, ◌+◌, ◌*◌, ◌/◌, ◌%◌, nat_lt, if◌then◌else◌, length, slice_index};
+    ghost use Rattle.cm_isa.specs.declared.memory.Shown.TheVariants.{Place, Page};
+
+    ghost view = { λ m. record {
+      shown = λ a. if nat_lt (a / 16) (length m.pages.items)
+          then Place (slice_index m.pages.items (a / 16) * 4 + a / 4 % 4) else Page;
+      allowed = λ p. nat_lt p 16;
+      word_at = slice_index m.words;
+    } };
+
+    ghost Rest = { List ℕ × ℕ };
+
+    ghost rest = { λ m. (m.pages.items, m.tag) };
+
+    fn show(&self, address: u32) -> Shown {
+        let index = (address / 16) as usize;
+        if index < self.pages.len() {
+            Shown::Place(u32::from(self.pages[index]) * 4 + address / 4 % 4)
+        } else {
+            Shown::Page
+        }
+    }
+
+    fn load(&mut self, place: u32) -> u32 {
+        self.words[place as usize]
+    }
+
+    fn store(&mut self, place: u32, word: u32) {
+        self.words[place as usize] = word;
+    }
+}
+
+/// One step over words in pages. The words are then those of the outcome, and the pages and the tag as
+/// before.
+fn step_paged(hart: &mut Hart, image: &Image, memory: &mut Paged) -> Halt
+    requires { MayStep (⟦<Paged as Words>⟧.view memory.old) image.now.words hart.old }
+    ensures outcome { (i : Operation) → InstructionAt image.now.words hart.old.pc i →
+        let after = hart_outcome (⟦<Paged as Words>⟧.view memory.old) i hart.old in
+        HasHartOutcome after hart.old result hart.new (⟦<Paged as Words>⟧.view memory.new) }
+    ensures pages { memory.new.pages.items ≡ memory.old.pages.items }
+    ensures tag { memory.new.tag ≡ memory.old.tag }
+{
+    step(hart, image, memory)
+}
+
+/// The words of a slice, from address 0 on.
+#[derive(Drop)]
+struct Lent<'a> {
+    words: &'a mut [u32],
+}
+
+impl Words for Lent<'_> {
+    ghost use Rattle.std.specs.Prelude.{ℕ, length};
+    ghost use Rattle.cm_isa.specs.View.{slice_view};
+
+    ghost view = { λ m. slice_view m.words.now };
+
+    ghost Rest = { ℕ × ℕ };
+
+    ghost rest = { λ m. (m.words.ghost_name, length m.words.now) };
+
+    fn show(&self, address: u32) -> Shown {
+        if ((address / 4) as usize) < self.words.len() {
+            Shown::Place(address / 4)
+        } else {
+            Shown::Outside
+        }
+    }
+
+    fn load(&mut self, place: u32) -> u32 {
+        self.words[place as usize]
+    }
+
+    fn store(&mut self, place: u32, word: u32) {
+        self.words[place as usize] = word;
+    }
+}
+
+/// One step over a slice that is borrowed for it. The owner then has the words of the outcome.
+fn step_lent(hart: &mut Hart, image: &Image, words: &mut [u32]) -> Halt
+    requires { MayStep (slice_view words.old) image.now.words hart.old }
+    ensures outcome { (i : Operation) → InstructionAt image.now.words hart.old.pc i →
+        let after = hart_outcome (slice_view words.old) i hart.old in
+        HasHartOutcome after hart.old result hart.new (slice_view words.new) }
+    ensures count { length words.new ≡ length words.old }
+{
+    step(hart, image, &mut Lent { words })
 }

@@ -1,6 +1,7 @@
 -- A memory as an instruction sees it: words of 32 bits in places, which addresses show.
-use Rattle.std.specs.Prelude.{◌≡◌, ◌≢◌, ℕ, Bool, ◌==◌, if◌then◌else◌}
+use Rattle.std.specs.Prelude.{◌≡◌, ◌≢◌, ℕ, ◌/◌, Bool, ◌==◌, nat_lt, if◌then◌else◌, List, length, slice_index}
 use Rattle.cm_isa.specs.declared.memory.Shown.{Shown}
+use Rattle.cm_isa.specs.declared.memory.Shown.TheVariants.{Place, Outside}
 
 -- what is shown at each address, which places the caller may touch, and the word in each place
 pub record View : Type 0 where
@@ -21,3 +22,11 @@ pub record SameMap (old new : View) : Type 0 where
 pub record Puts (old new : View) (place word : ℕ) : Type 0 where
   pub there : new.word_at place ≡ word
   pub others : (q : ℕ) → q ≢ place → new.word_at q ≡ old.word_at q
+
+-- the words of a list at the addresses from 0 on, each of which may be touched
+abbrev pub slice_view : List ℕ → View
+slice_view words = record {
+  shown = λ a. if nat_lt (a / 4) (length words) then Place (a / 4) else Outside;
+  allowed = λ place. nat_lt place (length words);
+  word_at = slice_index words;
+}

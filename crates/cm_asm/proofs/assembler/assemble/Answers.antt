@@ -2,7 +2,7 @@ use Rattle.std.proofs.Common.{◌∙◌, sym, subst, arith}
 use Rattle.std.proofs.lemmas.List.{append-nil}
 use Rattle.std.proofs.lemmas.Result.{err_from_is_err_and}
 use Rattle.cm_asm.specs.Assembly.{RefusesFirst}
-use Rattle.cm_asm.proofs.AssemblyLaws.{all-done, done-more, first-refusal, AnswersWith-from, none-refused}
+use Rattle.cm_asm.proofs.AssemblyLaw.{all-done, all-fine, done-more, first-refusal, AnswersWith-from, none-refused}
 use Rattle.cm_asm.proofs.assembler.assemble.Goals as goal
 use Rattle.cm_asm.proofs.assembler.assemble.Goals.{in-Some+in_ok-push, in_default}
 
@@ -21,6 +21,9 @@ loop-at-preserved c =
       | in-Some+in_ok-push w ↦ step (let found = w.in-Some.is in rw found (omega arith)) (let found = w.in-Some.is in rw found (w.words-is ∙ w.in_ok-push.ensures.ok)) l.invariant
       | in_default w ↦ step (let found = w.in_default.is in rw found tt) (let found = w.in_default.is in rw found (w.words-is ∙ sym (append-nil l.words))) l.invariant
     ]
+
+pub returns-clause-accepted : goal.returns-clause-accepted
+returns-clause-accepted c = all-fine c.args.items.now (λ k other lt. c.loop-at.invariant.fine k other (omega arith))
 
 pub returns-clause-image : goal.returns-clause-image
 returns-clause-image c = all-done c.args.items.now c.loop-at.at c.loop-at.words c.requires.few c.loop-at.auto.at-end c.loop-at.invariant

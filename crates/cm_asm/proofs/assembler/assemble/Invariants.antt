@@ -1,4 +1,4 @@
-use Rattle.cm_asm.proofs.AssemblyLaws.{IsDone}
+use Rattle.cm_asm.proofs.AssemblyLaw.{IsDone}
 use Rattle.cm_asm.proofs.assembler.assemble.Given as goal
 
 -- the words of the items so far, none of which is refused, and so the place of the next

@@ -1,5 +1,5 @@
 use Rattle.std.proofs.Common.{arith}
-use Rattle.cm_asm.proofs.ListingLaws.{hex-none, hex-more}
+use Rattle.cm_asm.proofs.ListingLaw.{hex-none, hex-more}
 use Rattle.cm_asm.proofs.listing.+put_hex.Goals as goal
 
 pub returns-then-digits-eq0 : goal.returns-then-digits-eq0

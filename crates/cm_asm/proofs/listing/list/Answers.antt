@@ -1,5 +1,5 @@
 use Rattle.std.proofs.Common.{arith}
-use Rattle.cm_asm.proofs.ListingLaws.{listing-more}
+use Rattle.cm_asm.proofs.ListingLaw.{listing-more}
 use Rattle.cm_asm.proofs.listing.list.Goals as goal
 
 pub loop-word-preserved : goal.loop-word-preserved

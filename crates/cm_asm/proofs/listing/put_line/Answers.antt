@@ -1,4 +1,4 @@
-use Rattle.cm_asm.proofs.ListingLaws.{line-appended}
+use Rattle.cm_asm.proofs.ListingLaw.{line-appended}
 use Rattle.cm_asm.proofs.listing.put_line.Goals as goal
 
 pub returns : goal.returns

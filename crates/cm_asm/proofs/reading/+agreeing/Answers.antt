@@ -1,5 +1,5 @@
 use Rattle.std.proofs.Common.{arith, sym, ◌∙◌}
-use Rattle.cm_asm.proofs.ReadingLaws.{agreeing-none, agreeing-stop, agreeing-end, agreeing-more}
+use Rattle.cm_asm.proofs.ReadingLaw.{agreeing-none, agreeing-stop, agreeing-end, agreeing-more}
 use Rattle.cm_asm.proofs.reading.+agreeing.Goals as goal
 use Rattle.cm_asm.proofs.reading.+agreeing.Goals.{then-count-digits-via-then-count-digits, then-count-digits-via-else-count-digits+then-count-text}
 

@@ -1,6 +1,6 @@
 use Rattle.std.proofs.Common.{arith, refl}
 use Rattle.cm_asm.specs.Listing.{hex}
-use Rattle.cm_asm.proofs.ReadingLaws.{number-more, number-small}
+use Rattle.cm_asm.proofs.ReadingLaw.{number-more, number-small}
 use Rattle.cm_asm.proofs.reading.number_front.Goals as goal
 
 pub loop-count-init : goal.loop-count-init

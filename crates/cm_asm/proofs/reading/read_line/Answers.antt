@@ -1,7 +1,7 @@
 use Rattle.std.proofs.Common.{arith, subst}
 use Rattle.std.proofs.lemmas.List.{take_rest, length-drop}
 use Rattle.cm_asm.specs.Reading.{IsNumberFront}
-use Rattle.cm_asm.proofs.ReadingLaws.{LeavesLine-address, LeavesLine-space, head-read, LeavesLine-word, LeavesLine-end, line-read}
+use Rattle.cm_asm.proofs.ReadingLaw.{LeavesLine-address, LeavesLine-space, head-read, LeavesLine-word, LeavesLine-end, line-read}
 use Rattle.cm_asm.proofs.reading.read_line.Goals as goal
 use Rattle.cm_asm.proofs.reading.read_line.Goals.{then-matched-lt8-via-then-matched-lt8, then-matched-lt8-via-else-matched-lt8+then-text-eq8, then-matched-lt8-via-else-matched-lt8+else-text-eq8+then-text-ne32}
 use Rattle.cm_asm.proofs.reading.read_line.Goals.{then-count-lt8-via-then-count-lt8, then-count-lt8-via-else-count-lt8+then-text-eq17, then-count-lt8-via-else-count-lt8+else-text-eq17+then-text-ne10}

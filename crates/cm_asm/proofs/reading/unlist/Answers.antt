@@ -2,22 +2,23 @@ use Rattle.std.proofs.Common.{◌≡◌, ◌*◌, arith, length, drop, take, sub
 use Rattle.std.proofs.lemmas.List.{take_rest, length_push}
 use Rattle.cm_asm.specs.Listing.{AreWords, line}
 use Rattle.cm_asm.specs.Reading.{LeavesLine}
-use Rattle.cm_asm.proofs.TextLaws.{LeavesAt-full, LeavesAt-line, LeavesAt-one, LeavesAt-not_listing, listing-injective, listing-read, line-inside, each-push, text-read}
+use Rattle.cm_asm.proofs.ListLaw.{each-push}
+use Rattle.cm_asm.proofs.TextLaw.{LeavesAt-full, LeavesAt-line, LeavesAt-one, LeavesAt-not_listing, listing-injective, listing-read, line-inside, text-read}
 use Rattle.cm_asm.proofs.reading.unlist.Goals as goal
 
-pub returns-then-len-eq-MOST_WORDS-clause-line : goal.returns-then-len-eq-MOST_WORDS-clause-line
-returns-then-len-eq-MOST_WORDS-clause-line c =
+pub returns-then-len-eq-MAX_WORDS-clause-line : goal.returns-then-len-eq-MAX_WORDS-clause-line
+returns-then-len-eq-MAX_WORDS-clause-line c =
     let l = c.loop-at in
     let are : AreWords l.words = record { few = l.invariant.few; each = l.invariant.each } in
     LeavesAt-full c.args.text.now l.words l.at are (omega arith) l.invariant.read l.invariant.place (omega arith)
 
-pub returns-then-len-eq-MOST_WORDS-clause-each_listing : goal.returns-then-len-eq-MOST_WORDS-clause-each_listing
-returns-then-len-eq-MOST_WORDS-clause-each_listing c = λ words are e.
-    LeavesAt-not_listing c.args.text.now c.loop-at.at (words, are, e) (returns-then-len-eq-MOST_WORDS-clause-line c)
+pub returns-then-len-eq-MAX_WORDS-clause-each_listing : goal.returns-then-len-eq-MAX_WORDS-clause-each_listing
+returns-then-len-eq-MAX_WORDS-clause-each_listing c = λ words are e.
+    LeavesAt-not_listing c.args.text.now c.loop-at.at (words, are, e) (returns-then-len-eq-MAX_WORDS-clause-line c)
 
-pub returns-then-len-eq-MOST_WORDS-clause-each_line : goal.returns-then-len-eq-MOST_WORDS-clause-each_line
-returns-then-len-eq-MOST_WORDS-clause-each_line c = λ at leaves.
-    LeavesAt-one c.args.text.now c.loop-at.at at (returns-then-len-eq-MOST_WORDS-clause-line c) leaves
+pub returns-then-len-eq-MAX_WORDS-clause-each_line : goal.returns-then-len-eq-MAX_WORDS-clause-each_line
+returns-then-len-eq-MAX_WORDS-clause-each_line c = λ at leaves.
+    LeavesAt-one c.args.text.now c.loop-at.at at (returns-then-len-eq-MAX_WORDS-clause-line c) leaves
 
 pub returns-in-Err-clause-line : goal.returns-in-Err-clause-line
 returns-in-Err-clause-line c =

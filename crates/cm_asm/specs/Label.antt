@@ -4,15 +4,15 @@ use Rattle.indexmap.specs.IndexMap.{IndexMap, get}
 use Rattle.cm_isa.specs.Bits.{IsSigned}
 use Rattle.cm_isa.specs.Format.{Row}
 use Rattle.cm_isa.specs.Operation.{Operation}
-use Rattle.cm_asm.specs.declared.items.Item.{Item}
+use Rattle.cm_asm.specs.declared.item.Item.{Item}
 use Rattle.cm_asm.specs.declared.assembler.Spot.{Spot}
 use Rattle.cm_asm.specs.declared.assembler.AsmRefusal.{AsmRefusal}
 use Rattle.cm_asm.specs.declared.assembler.AsmRefusal.TheVariants as refusals
-use Rattle.cm_asm.specs.Assembly.{label_of, place_of, operation_of, IsRefused}
+use Rattle.cm_asm.specs.Assembly.{label_of, address_of, operation_of, IsRefused}
 
--- where the item with this index stands
+-- the item with this index, and its address
 abbrev pub spot_of : List Item → ℕ → Spot
-spot_of items k = record { at = k; place = place_of items k }
+spot_of items k = record { at = k; address = address_of items k }
 
 -- the table has the first label of each number among the items `seen`, which begin all items
 abbrev pub AreLabels : {S : Type 0} → (items seen : List Item) → IndexMap ℕ Spot S → Type 0

@@ -1,5 +1,5 @@
 -- Laws of items: places, first labels, words and refusals.
-use Rattle.std.proofs.Common.{◌≡◌, ◌≢◌, ℕ, suc, ◌+◌, ◌*◌, ◌%◌, ◌^◌, ◌<◌, ◌≤◌, Bool, true, false, cond, not, eqb, ltb, List, [], ◌∷◌, ◌++◌, length, get_or, take, Option, Some, None, Result, Ok, Err, IsSome, IfSome, option_to_list, MatchOption, slice_get, refl, ap, sym, subst, ◌∙◌, append_assoc, arith, ⊎_elim, pos, ◌-ℤ◌, ℤ, unwrap_or}
+use Rattle.std.proofs.Common.{◌≡◌, ◌≢◌, ℕ, suc, ◌+◌, ◌*◌, ◌%◌, ◌^◌, ◌<◌, ◌≤◌, Bool, true, false, cond, not, eqb, ltb, List, [], ◌∷◌, ◌++◌, length, get_or, take, Option, Some, None, Result, Ok, Err, IsSome, IfSome, option_to_list, MatchOption, slice_get, refl, ap, sym, subst, ◌∙◌, append_assoc, arith, ⊎_elim, pos, ◌-ℤ◌, ℤ}
 use Rattle.std.specs.List.{position, position_or_len, sum_by}
 use Rattle.std.specs.Option.{option_or, option_map}
 use Rattle.indexmap.specs.IndexMap.{IndexMap, get}
@@ -16,17 +16,18 @@ use Rattle.cm_isa.specs.Operation.{Operation, operation}
 use Rattle.cm_isa.specs.Address.{AreWordsOf}
 use Rattle.cm_isa.specs.declared.kind.Kind.{Kind}
 use Rattle.cm_isa.specs.declared.kind.Kind.TheVariants as kinds
-use Rattle.cm_asm.specs.declared.items.Item.{Item}
-use Rattle.cm_asm.specs.declared.items.Item.TheVariants.{Plain, Label, Jump, Branch}
+use Rattle.cm_asm.specs.declared.item.Item.{Item}
+use Rattle.cm_asm.specs.declared.item.Item.TheVariants.{Plain, Label, Jump, Branch}
 use Rattle.cm_asm.specs.declared.assembler.Spot.{Spot}
 use Rattle.cm_asm.specs.declared.assembler.AsmRefusal.{AsmRefusal}
 use Rattle.cm_asm.specs.declared.assembler.AsmRefusal.TheVariants as refusals
-use Rattle.cm_asm.specs.Assembly.{size_of, place_of, is_label, label_of, distance, distance_to, operation_of, operations_from, Misses, IsRefused, IsRefusedAt, RefusesFirst, IsFirstRefusal, AnswersWith}
+use Rattle.cm_asm.specs.Assembly.{size_of, address_of, is_label, label_of, distance, operation_of, operations_from, Misses, IsRefused, IsRefusedAt, AreAccepted, RefusesFirst, IsFirstRefusal, AnswersWith}
 use Rattle.cm_asm.specs.Listing.{AreWords}
-use Rattle.cm_asm.proofs.TextLaws.{each-push}
-use Rattle.cm_asm.specs.Labels.{spot_of, AreLabels, Reaches, GivesItem, GivesAt}
+use Rattle.cm_isa.proofs.Image.{AreWordsOf-push}
+use Rattle.cm_asm.proofs.ListLaw.{each-push, position-push, position-None, some-before, take-one_more}
+use Rattle.cm_asm.specs.Label.{spot_of, AreLabels, Reaches, GivesItem, GivesAt}
 
--- ---- places
+-- ---- addresses
 
 size-multiple : (item : Item) → size_of item % 4 ≡ 0
 size-multiple (Plain i) = refl
@@ -38,12 +39,12 @@ bytes-multiple : (items : List Item) → sum_by size_of items % 4 ≡ 0
 bytes-multiple [] = refl
 bytes-multiple (item ∷ items) = omega (arith, sum_by-cons size_of item items, size-multiple item, bytes-multiple items)
 
-pub place-multiple : (items : List Item) (k : ℕ) → place_of items k % 4 ≡ 0
-place-multiple items k = bytes-multiple (take k items)
+pub address-multiple : (items : List Item) (k : ℕ) → address_of items k % 4 ≡ 0
+address-multiple items k = bytes-multiple (take k items)
 
-pub place-more : (items : List Item) (k : ℕ) (item : Item) → slice_get items k ≡ Some item → place_of items (k + 1) ≡ place_of items k + size_of item
-place-more items k item e =
-    sum_by_more size_of items k item (slice_get_within items k item e) ∙ ap (λ it. place_of items k + size_of it) (get_or_from_slice_get items k item item e)
+pub address-more : (items : List Item) (k : ℕ) (item : Item) → slice_get items k ≡ Some item → address_of items (k + 1) ≡ address_of items k + size_of item
+address-more items k item e =
+    sum_by_more size_of items k item (slice_get_within items k item e) ∙ ap (λ it. address_of items k + size_of it) (get_or_from_slice_get items k item item e)
 
 pub size-small : (item : Item) → size_of item ≤ 4
 size-small (Plain i) = omega arith
@@ -51,42 +52,7 @@ size-small (Label n) = omega arith
 size-small (Jump rd n) = omega arith
 size-small (Branch kind r q n) = omega arith
 
-pub take-one_more : (items : List Item) (k : ℕ) (item : Item) → slice_get items k ≡ Some item → take (k + 1) items ≡ take k items ++ item ∷ []
-take-one_more items k item e =
-    take_more items k item (slice_get_within items k item e) ∙ ap (λ it. take k items ++ it ∷ []) (get_or_from_slice_get items k item item e)
-
 -- ---- the first label
-
-pushed_end : (q n : ℕ) (b : Bool) → q ≡ n → cond (ltb (n + cond b 0 1) (n + 1)) (Some (n + cond b 0 1)) None ≡ option_or (cond (ltb q n) (Some q) None) (cond b (Some n) None)
-pushed_end q n true e =
-    let t : ltb q n ≡ false = le-ltb q n (omega arith) in
-    let u : ltb (n + 0) (n + 1) ≡ true = lt-ltb (n + 0) (n + 1) (omega arith) in
-    let v : n + 0 ≡ n = omega arith in
-    cond-true (ltb (n + 0) (n + 1)) (Some (n + 0)) None u ∙ ap (λ m. Some m) v ∙ ap (λ c. option_or (cond c (Some q) None) (Some n)) (sym t)
-pushed_end q n false e =
-    let t : ltb q n ≡ false = le-ltb q n (omega arith) in
-    let u : ltb (n + 1) (n + 1) ≡ false = le-ltb (n + 1) (n + 1) (omega arith) in
-    cond-false (ltb (n + 1) (n + 1)) (Some (n + 1)) None u ∙ ap (λ c. option_or (cond c (Some q) None) None) (sym t)
-
-pushed_at : (q q' n n' : ℕ) (b : Bool) → n' ≡ n + 1 → q ≤ n → q' ≡ cond (eqb q n) (n + cond b 0 1) q
-    → cond (ltb q' n') (Some q') None ≡ option_or (cond (ltb q n) (Some q) None) (cond b (Some n) None)
-pushed_at q q' n n' b size le e =
-    ⊎_elim
-    (λ lt.
-    let s : q' ≡ q = e ∙ cond-false (eqb q n) (n + cond b 0 1) q (ne_eqb q n (λ same. omega arith)) in
-    let t : ltb q n ≡ true = lt-ltb q n lt in
-    let u : ltb q' n' ≡ true = lt-ltb q' n' (omega arith) in
-    cond-true (ltb q' n') (Some q') None u ∙ ap (λ m. Some m) s ∙ ap (λ c. option_or (cond c (Some q) None) (cond b (Some n) None)) (sym t))
-    (λ ge.
-    let same : q ≡ n = omega arith in
-    let s : q' ≡ n + cond b 0 1 = e ∙ cond-true (eqb q n) (n + cond b 0 1) q (eq-eqb q n same) in
-    rw (s, size) (pushed_end q n b same))
-    (cases_lt q n)
-
-position-push : (p : Item → Bool) (xs : List Item) (x : Item) → position p (xs ++ x ∷ []) ≡ option_or (position p xs) (cond (p x) (Some (length xs)) None)
-position-push p xs x =
-    pushed_at (position_or_len p xs) (position_or_len p (xs ++ x ∷ [])) (length xs) (length (xs ++ x ∷ [])) (p x) (length_push xs x)
-    (prefix_len-le-length (λ y. not (p y)) xs) (position_or_len_push p xs x)
 
 option_map-option_or : (f : ℕ → Spot) (o : Option ℕ) (b : Bool) (k : ℕ) → option_or (option_map f o) (cond b (Some (f k)) None) ≡ option_map f (option_or o (cond b (Some k) None))
 option_map-option_or f None true k = refl
@@ -104,28 +70,12 @@ labels-more items old new k item spot e are same step n =
     rw (step n, are n, same, take-one_more items k item e, push)
     (option_map-option_or (spot_of items) (position (is_label n) (take k items)) (is_label n item) k)
 
--- where a label before the item with index k stands
-some-before : (p : Item → Bool) (items : List Item) (k : ℕ) (d : Item) (o : Option ℕ) → position p (take k items) ≡ o → IsSome o
-    → (j : ℕ) × (j < k) × (j < length items) × (p (get_or items j d) ≡ true)
-some-before p items k d None e some = absurd (false≢true some)
-some-before p items k d (Some j) e some =
-    let at = position-Some p (take k items) j d e in
-    let lt : j < length (take k items) = at.0 in
-    let short = length-take k items in
-    let below : j < k = omega arith in
-    (j, below, omega arith, sym (ap p (get_or-take k items j d below)) ∙ at.1)
-
 -- the first of its number has none before it
 not-before_first : (p : Item → Bool) (items : List Item) (k : ℕ) (d : Item) → position p items ≡ Some k → IsSome (position p (take k items)) → ⊥
 not-before_first p items k d e some =
     let found = some-before p items k d (position p (take k items)) refl some in
     let first = position-Some p items k d e in
     both_ways (p (get_or items found.0 d)) (first.2 found.0 found.1) found.3
-
-position-None : (p : Item → Bool) (items : List Item) (j : ℕ) (d : Item) → position p items ≡ None → j < length items → p (get_or items j d) ≡ false
-position-None p items j d e inside =
-    let past : length items ≤ position_or_len p items = grind (arith, nat_tests) in
-    fails_before_first p items j d (omega arith)
 
 not-before_none : (p : Item → Bool) (items : List Item) (k : ℕ) (d : Item) → position p items ≡ None → IsSome (position p (take k items)) → ⊥
 not-before_none p items k d e some =
@@ -189,47 +139,44 @@ missed bits items k t o far refusal e same wide r =
     rw e (subst (λ d. (IsSigned bits d → ⊥) × (refusal ≡ refusals.Range k d)) same (wide, r))
 
 -- the distance to a label that was looked up
-far-is : (items : List Item) (k n t place : ℕ) (spot : Spot) (far : ℤ) → label_of items n ≡ Some t → spot ≡ spot_of items t → place ≡ place_of items k
-    → far ≡ pos spot.place -ℤ pos place → far ≡ distance items k t
-far-is items k n t place spot far e same p f =
-    f ∙ ap (λ s. pos s.place -ℤ pos place) same ∙ ap (λ from. pos (place_of items t) -ℤ pos from) p
+far-is : (items : List Item) (k n t address : ℕ) (spot : Spot) (far : ℤ) → label_of items n ≡ Some t → spot ≡ spot_of items t → address ≡ address_of items k
+    → far ≡ pos spot.address -ℤ pos address → far ≡ distance items k t
+far-is items k n t address spot far e same p f =
+    f ∙ ap (λ s. pos s.address -ℤ pos address) same ∙ ap (λ from. pos (address_of items t) -ℤ pos from) p
 
-to-is : (items : List Item) (k n t : ℕ) → label_of items n ≡ Some t → distance_to items k n ≡ distance items k t
-to-is items k n t e = ap (λ o. distance items k (unwrap_or o 0)) e
-
-pub gives-jump : (items : List Item) (k rd n place : ℕ) (spot : Spot) (far : ℤ) (r : Result (Option ℕ) AsmRefusal)
-    → Some spot ≡ option_map (spot_of items) (label_of items n) → place ≡ place_of items k → far ≡ pos spot.place -ℤ pos place
+pub gives-jump : (items : List Item) (k rd n address : ℕ) (spot : Spot) (far : ℤ) (r : Result (Option ℕ) AsmRefusal)
+    → Some spot ≡ option_map (spot_of items) (label_of items n) → address ≡ address_of items k → far ≡ pos spot.address -ℤ pos address
     → Reaches 21 (operation kinds.Jal rd 0 0 far) k far r → GivesItem items k (Jump rd n) r
-gives-jump items k rd n place spot far (Ok None) e p f h = absurd h
-gives-jump items k rd n place spot far (Ok (Some w)) e p f h =
+gives-jump items k rd n address spot far (Ok None) e p f h = absurd h
+gives-jump items k rd n address spot far (Ok (Some w)) e p f h =
     let found = looked_up items spot (label_of items n) e in
-    let same = far-is items k n found.0 place spot far found.1 found.2 p f in
-    let to = to-is items k n found.0 found.1 in (
-      operation kinds.Jal rd 0 0 far,
-      ap (λ d. Some (operation kinds.Jal rd 0 0 d)) (to ∙ sym same),
+    let same = far-is items k n found.0 address spot far found.1 found.2 p f in
+    let made : ℤ → Operation = λ d. operation kinds.Jal rd 0 0 d in (
+      made far,
+      ap (option_map (λ t. made (distance items k t))) found.1 ∙ ap (λ d. Some (made d)) (sym same),
       h.0,
       λ refusal refused. not-missed 21 items k found.0 (label_of items n) refusal found.1 (subst (λ d. IsSigned 21 d) same h.1) refused,
     )
-gives-jump items k rd n place spot far (Err refusal) e p f h =
+gives-jump items k rd n address spot far (Err refusal) e p f h =
     let found = looked_up items spot (label_of items n) e in
-    missed 21 items k found.0 (label_of items n) far refusal found.1 (far-is items k n found.0 place spot far found.1 found.2 p f) h.0 h.1
+    missed 21 items k found.0 (label_of items n) far refusal found.1 (far-is items k n found.0 address spot far found.1 found.2 p f) h.0 h.1
 
-pub gives-branch : (items : List Item) (k : ℕ) (kind : Kind) (rs1 rs2 n place : ℕ) (spot : Spot) (far : ℤ) (r : Result (Option ℕ) AsmRefusal)
-    → Some spot ≡ option_map (spot_of items) (label_of items n) → place ≡ place_of items k → far ≡ pos spot.place -ℤ pos place
+pub gives-branch : (items : List Item) (k : ℕ) (kind : Kind) (rs1 rs2 n address : ℕ) (spot : Spot) (far : ℤ) (r : Result (Option ℕ) AsmRefusal)
+    → Some spot ≡ option_map (spot_of items) (label_of items n) → address ≡ address_of items k → far ≡ pos spot.address -ℤ pos address
     → Reaches 13 (operation kind 0 rs1 rs2 far) k far r → GivesItem items k (Branch kind rs1 rs2 n) r
-gives-branch items k kind rs1 rs2 n place spot far (Ok None) e p f h = absurd h
-gives-branch items k kind rs1 rs2 n place spot far (Ok (Some w)) e p f h =
+gives-branch items k kind rs1 rs2 n address spot far (Ok None) e p f h = absurd h
+gives-branch items k kind rs1 rs2 n address spot far (Ok (Some w)) e p f h =
     let found = looked_up items spot (label_of items n) e in
-    let same = far-is items k n found.0 place spot far found.1 found.2 p f in
-    let to = to-is items k n found.0 found.1 in (
-      operation kind 0 rs1 rs2 far,
-      ap (λ d. Some (operation kind 0 rs1 rs2 d)) (to ∙ sym same),
+    let same = far-is items k n found.0 address spot far found.1 found.2 p f in
+    let made : ℤ → Operation = λ d. operation kind 0 rs1 rs2 d in (
+      made far,
+      ap (option_map (λ t. made (distance items k t))) found.1 ∙ ap (λ d. Some (made d)) (sym same),
       h.0,
       λ refusal refused. not-missed 13 items k found.0 (label_of items n) refusal found.1 (subst (λ d. IsSigned 13 d) same h.1) refused,
     )
-gives-branch items k kind rs1 rs2 n place spot far (Err refusal) e p f h =
+gives-branch items k kind rs1 rs2 n address spot far (Err refusal) e p f h =
     let found = looked_up items spot (label_of items n) e in
-    missed 13 items k found.0 (label_of items n) far refusal found.1 (far-is items k n found.0 place spot far found.1 found.2 p f) h.0 h.1
+    missed 13 items k found.0 (label_of items n) far refusal found.1 (far-is items k n found.0 address spot far found.1 found.2 p f) h.0 h.1
 
 pub gives-missing_jump : (items : List Item) (k rd n : ℕ) → None ≡ option_map (spot_of items) (label_of items n) → GivesItem items k (Jump rd n) (Err (refusals.Label k))
 gives-missing_jump items k rd n e = rw (looked_up_none items (label_of items n) e) refl
@@ -238,11 +185,11 @@ pub gives-missing_branch : (items : List Item) (k : ℕ) (kind : Kind) (rs1 rs2 
     → GivesItem items k (Branch kind rs1 rs2 n) (Err (refusals.Label k))
 gives-missing_branch items k kind rs1 rs2 n e = rw (looked_up_none items (label_of items n) e) refl
 
--- the place of a label that was looked up is a multiple of 4
-pub spot-multiple : (items : List Item) (n : ℕ) (spot : Spot) → Some spot ≡ option_map (spot_of items) (label_of items n) → spot.place % 4 ≡ 0
+-- the address of a label that was looked up is a multiple of 4
+pub spot-multiple : (items : List Item) (n : ℕ) (spot : Spot) → Some spot ≡ option_map (spot_of items) (label_of items n) → spot.address % 4 ≡ 0
 spot-multiple items n spot e =
     let found = looked_up items spot (label_of items n) e in
-    ap (λ s. s.place % 4) found.2 ∙ place-multiple items found.0
+    ap (λ s. s.address % 4) found.2 ∙ address-multiple items found.0
 
 -- ---- refusals
 
@@ -313,27 +260,26 @@ operations_from-push items k (first ∷ rest) item =
     rw (operations_from-push items (k + 1) rest item, same)
     (sym (append_assoc (option_to_list (operation_of items k first)) (operations_from items (k + 1) rest) (option_to_list (operation_of items (k + suc (length rest)) item))))
 
-pub AreWordsOf-push : (words : List ℕ) (is : List Operation) (w : ℕ) (i : Operation) → AreWordsOf words is → Row w i → AreWordsOf (words ++ w ∷ []) (is ++ i ∷ [])
-AreWordsOf-push [] [] w i h row = (row, tt)
-AreWordsOf-push [] (j ∷ is) w i h row = absurd h
-AreWordsOf-push (v ∷ words) [] w i h row = absurd h
-AreWordsOf-push (v ∷ words) (j ∷ is) w i h row = (h.0, AreWordsOf-push words is w i h.1 row)
-
 -- ---- the items so far
 
 -- the words are those of the items before the index k, none of which is refused
 pub record IsDone (items : List Item) (k : ℕ) (words : List ℕ) : Type 0 where
   pub words_of : AreWordsOf words (operations_from items 0 (take k items))
-  pub place : place_of items k ≡ 4 * length words
+  pub address : address_of items k ≡ 4 * length words
   pub few : length words ≤ k
   pub each : (j : ℕ) → get_or words j 0 < 2 ^ 32
   pub fine : (j : ℕ) (refusal : AsmRefusal) → j < k → IsRefusedAt items j refusal → ⊥
 
-size-none : (items : List Item) (k : ℕ) (item : Item) → operation_of items k item ≡ None → size_of item ≡ 0
-size-none items k (Plain i) e = absurd cc
-size-none items k (Label n) e = refl
-size-none items k (Jump rd n) e = absurd cc
-size-none items k (Branch kind r q n) e = absurd cc
+no-label : (made : ℕ → Operation) (o : Option ℕ) → option_map made o ≡ None → o ≡ None
+no-label made None e = refl
+no-label made (Some t) e = absurd cc
+
+-- an item without an instruction that isn't refused is a label
+size-none : (items : List Item) (k : ℕ) (item : Item) → operation_of items k item ≡ None → ((refusal : AsmRefusal) → IsRefused items k item refusal → ⊥) → size_of item ≡ 0
+size-none items k (Plain i) e fine = absurd cc
+size-none items k (Label n) e fine = refl
+size-none items k (Jump rd n) e fine = absurd (fine (refusals.Label k) (rw (no-label _ (label_of items n) e) refl))
+size-none items k (Branch kind r q n) e fine = absurd (fine (refusals.Label k) (rw (no-label _ (label_of items n) e) refl))
 
 size-some : (items : List Item) (k : ℕ) (item : Item) (i : Operation) → operation_of items k item ≡ Some i → size_of item ≡ 4
 size-some items k (Plain i) j e = refl
@@ -357,11 +303,11 @@ done-item items k words next None item e h small f done =
     let same : next ≡ words = f ∙ append-nil words in
     let more : operations_from items 0 (take (k + 1) items) ≡ operations_from items 0 (take k items) =
     operations-more items k item e ∙ ap (λ o. operations_from items 0 (take k items) ++ option_to_list o) h.0 ∙ append-nil (operations_from items 0 (take k items)) in
-    let place = place-more items k item e in
-    let size = size-none items k item h.0 in
+    let address = address-more items k item e in
+    let size = size-none items k item h.0 h.1 in
     record {
       words_of = rw (same, more) done.words_of;
-      place = rw same (let was = done.place in omega arith);
+      address = rw same (let was = done.address in omega arith);
       few = rw same (let was = done.few in omega arith);
       each = rw same done.each;
       fine = fine-more items k item e h.1 done.fine;
@@ -370,12 +316,12 @@ done-item items k words next (Some w) item e h small f done =
     let i = h.0 in
     let more : operations_from items 0 (take (k + 1) items) ≡ operations_from items 0 (take k items) ++ i ∷ [] =
     operations-more items k item e ∙ ap (λ o. operations_from items 0 (take k items) ++ option_to_list o) h.1 in
-    let place = place-more items k item e in
+    let address = address-more items k item e in
     let size = size-some items k item i h.1 in
     let longer = length_push words w in
     record {
       words_of = rw (f, more) (AreWordsOf-push words (operations_from items 0 (take k items)) w i done.words_of h.2);
-      place = rw f (let was = done.place in omega arith);
+      address = rw f (let was = done.address in omega arith);
       few = rw f (let was = done.few in omega arith);
       each = rw f (each-push words w done.each small);
       fine = fine-more items k item e h.3 done.fine;
@@ -390,6 +336,10 @@ done-at items k words next given (Some item) e h small f done = done-item items 
 pub done-more : (items : List Item) (k : ℕ) (words next : List ℕ) (given : Option ℕ) → GivesAt items k (Ok given) → IfSome given (λ w. w < 2 ^ 32)
     → next ≡ words ++ option_to_list given → IsDone items k words → IsDone items (k + 1) next
 done-more items k words next given h small f done = done-at items k words next given (slice_get items k) refl h small f done
+
+-- no item is refused
+pub all-fine : (items : List Item) → ((k : ℕ) (refusal : AsmRefusal) → k < length items → IsRefusedAt items k refusal → ⊥) → AreAccepted items
+all-fine items fine = λ k refusal h. fine k refusal (IsRefusedAt-inside items k refusal h) h
 
 -- all items
 pub all-done : (items : List Item) (k : ℕ) (words : List ℕ) → length items ≤ 4194304 → k ≤ length items → IsDone items k words → AreWords words

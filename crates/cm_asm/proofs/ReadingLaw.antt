@@ -5,7 +5,8 @@ use Rattle.std.proofs.lemmas.Bool.{cases_lt}
 use Rattle.std.proofs.Math.Nat.{pow-le-pow_right}
 use Rattle.cm_asm.specs.Listing.{hex_digit, hex, line}
 use Rattle.cm_asm.specs.Reading.{Agrees, IsHexByte, IsNumberFront, LeavesLine}
-use Rattle.cm_asm.proofs.ListingLaws.{length-hex, hex-push, hex-padded, pow16-suc}
+use Rattle.cm_asm.proofs.ListLaw.{take-add}
+use Rattle.cm_asm.proofs.ListingLaw.{length-hex, hex-push, hex-padded, pow16-suc}
 
 -- ---- the address
 
@@ -146,13 +147,6 @@ get_or-line_end : (a w : ℕ) → get_or (line a w) 17 0 ≡ 10
 get_or-line_end a w =
     rw (line-split a w, get_or-append_right (front_of a) (hex 8 w ++ 10 ∷ []) 9 17 0 (length-front_of a) (omega arith))
     (get_or_push (hex 8 w) 10 0 8 (length-hex 8 w))
-
-pub take-add : (m n : ℕ) (xs : List ℕ) → take (m + n) xs ≡ take m xs ++ take n (drop m xs)
-take-add m n xs =
-    let a = take-append-drop m (take (m + n) xs) in
-    let b = take-take m (m + n) xs (omega arith) in
-    let d = drop-take m n xs in
-    cc
 
 -- the line up to some digits of the word
 take-line_word : (a w v m : ℕ) (tail : List ℕ) → hex 8 w ≡ hex m v ++ tail → take (9 + m) (line a w) ≡ front_of a ++ hex m v

@@ -4,8 +4,8 @@ use Rattle.std.proofs.lemmas.Bool.{cases_lt}
 use Rattle.std.proofs.lemmas.List.{append-nil, append_cancel_left, length_push, length-take, length-take-le, length-drop, get_or_append_left, get_or-append_right, get_or-drop, get_or-take, take_at, drop_at, take_all, take-append-drop, take-take}
 use Rattle.cm_asm.specs.Listing.{hex, line, listing_from, listing, AreWords, IsListing, IsFront, LeavesAt}
 use Rattle.cm_asm.specs.Reading.{LeavesLine}
-use Rattle.cm_asm.proofs.ListingLaws.{length-hex, hex-injective, length-line, length-listing_from, listing_from-push}
-use Rattle.cm_asm.proofs.ReadingLaws.{take-add}
+use Rattle.cm_asm.proofs.ListingLaw.{length-hex, hex-injective, length-line, length-listing_from, listing_from-push}
+use Rattle.cm_asm.proofs.ListLaw.{each-push, take-add}
 
 -- ---- one list of words for each listing
 
@@ -56,12 +56,6 @@ get_or-listing_from (w ∷ words) a (suc k) n inside short =
 
 AreWords-none : AreWords []
 AreWords-none = record { few = omega arith; each = λ k. omega arith }
-
-pub each-push : (words : List ℕ) (w : ℕ) → ((k : ℕ) → get_or words k 0 < 2 ^ 32) → w < 2 ^ 32 → (k : ℕ) → get_or (words ++ w ∷ []) k 0 < 2 ^ 32
-each-push [] w each small zero = small
-each-push [] w each small (suc k) = omega arith
-each-push (v ∷ words) w each small zero = each 0
-each-push (v ∷ words) w each small (suc k) = each-push words w (λ j. each (suc j)) small k
 
 -- a line more was read
 pub listing-read : (text words : List ℕ) (at w : ℕ) → take at text ≡ listing words → at ≡ 18 * length words
