@@ -13,3 +13,4 @@ pub mod StatementTakes
 pub mod PlainTakes
 pub mod Takes
 pub mod Reached
+pub mod Outcome
