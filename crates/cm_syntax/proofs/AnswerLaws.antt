@@ -14,7 +14,7 @@ use Rattle.cm_syntax.proofs.BoundLaws.{is_small, small_among, Fit, FitsAt, fits_
 -- ---- offsets ascend
 
 -- the offsets are at least `low`, ascend, and are below `high`
-abbrev Ascend : (low high : ℕ) → List LocatedToken → Type 0
+abbrev pub Ascend : (low high : ℕ) → List LocatedToken → Type 0
 Ascend low high [] = low ≤ high
 Ascend low high (t ∷ tokens) = (low ≤ t.at) × (t.at < high) × Ascend (t.at + 1) high tokens
 
@@ -22,10 +22,10 @@ ascend_from : (low less high : ℕ) (tokens : List LocatedToken) → less ≤ lo
 ascend_from low less high [] le h = omega (arith, h)
 ascend_from low less high (t ∷ tokens) le h = (omega (arith, h.0), h.1, h.2)
 
-ascend_to : (low high more : ℕ) (tokens : List LocatedToken) → high ≡ more → Ascend low high tokens → Ascend low more tokens
+pub ascend_to : (low high more : ℕ) (tokens : List LocatedToken) → high ≡ more → Ascend low high tokens → Ascend low more tokens
 ascend_to low high more tokens e h = subst (λ k. Ascend low k tokens) e h
 
-tokens_ascend : {at : ℕ} {bytes : List ℕ} {tokens : List LocatedToken} → Tokens at bytes tokens → Ascend at (at + length bytes) tokens
+pub tokens_ascend : {at : ℕ} {bytes : List ℕ} {tokens : List LocatedToken} → Tokens at bytes tokens → Ascend at (at + length bytes) tokens
 tokens_ascend Tokens.end = omega arith
 tokens_ascend {at} {tokens = tokens} (Tokens.space {byte = byte} {bytes = bytes} white more) =
     ascend_from (at + 1) at (at + suc (length bytes)) tokens (omega arith) (ascend_to (at + 1) (at + 1 + length bytes) (at + suc (length bytes)) tokens (omega arith) (tokens_ascend more))
@@ -47,11 +47,11 @@ tokens_ascend {at} {bytes} (Tokens.fault f) = some bytes f.some
     some (b ∷ bytes) no_bytes = (omega arith, omega arith, omega arith)
 
 -- a token's offset is below the end, and not above that of a later one
-offset_below : (low high : ℕ) (before : List LocatedToken) (t : LocatedToken) (after : List LocatedToken) → Ascend low high (before ++ t ∷ after) → (low ≤ t.at) × (t.at < high)
+pub offset_below : (low high : ℕ) (before : List LocatedToken) (t : LocatedToken) (after : List LocatedToken) → Ascend low high (before ++ t ∷ after) → (low ≤ t.at) × (t.at < high)
 offset_below low high [] t after h = (h.0, h.1)
 offset_below low high (u ∷ before) t after h = let found = offset_below (u.at + 1) high before t after h.2 in (omega (arith, h.0, found.0), found.1)
 
-offset_order : (low high : ℕ) (before : List LocatedToken) (t : LocatedToken) (after later : List LocatedToken) (u : LocatedToken) (rest : List LocatedToken) →
+pub offset_order : (low high : ℕ) (before : List LocatedToken) (t : LocatedToken) (after later : List LocatedToken) (u : LocatedToken) (rest : List LocatedToken) →
     Ascend low high (before ++ t ∷ after) → before ++ t ∷ after ≡ later ++ u ∷ rest → length before ≤ length later → t.at ≤ u.at
 offset_order low high [] t after [] u rest h e le = let same : t ≡ u = cc in omega (arith, ap (λ p. p.at) same)
 offset_order low high [] t after (v ∷ later) u rest h e le =
@@ -64,7 +64,7 @@ offset_order low high (v ∷ before) t after (x ∷ later) u rest h e le =
 
 -- ---- what passes a limit begins a program
 
-exceeds_begins : (bytes : List ℕ) (at : ℕ) (h : Exceeds bytes at) → BeginsProgram (located_tokens h.before ++ h.token.located ∷ [])
+pub exceeds_begins : (bytes : List ℕ) (at : ℕ) (h : Exceeds bytes at) → BeginsProgram (located_tokens h.before ++ h.token.located ∷ [])
 exceeds_begins bytes at h = (
   located_tokens h.more,
   (
@@ -96,7 +96,7 @@ module _ (bytes : List ℕ) (before : List LocatedToken) (token : LocatedToken) 
       ]
 
 -- the tokens up to one that is not later begin a program as well
-not_later : (bytes : List ℕ) (a : List LocatedToken) (t : LocatedToken) (b c : List LocatedToken) (u : LocatedToken) (d : List LocatedToken) → Tokens 0 bytes (a ++ t ∷ b) → Tokens 0 bytes (c ++ u ∷ d) →
+pub not_later : (bytes : List ℕ) (a : List LocatedToken) (t : LocatedToken) (b c : List LocatedToken) (u : LocatedToken) (d : List LocatedToken) → Tokens 0 bytes (a ++ t ∷ b) → Tokens 0 bytes (c ++ u ∷ d) →
     length a ≤ length c → BeginsProgram (c ++ u ∷ []) → BeginsProgram (a ++ t ∷ [])
 not_later bytes a t b c u d read other le begins =
     let same : (a ++ t ∷ []) ++ b ≡ (c ++ u ∷ []) ++ d = append_assoc a (t ∷ []) b ∙ (Tokens-one read other ∙ sym (append_assoc c (u ∷ []) d)) in

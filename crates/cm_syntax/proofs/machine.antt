@@ -14,3 +14,4 @@ pub mod PlainTakes
 pub mod Takes
 pub mod Reached
 pub mod Outcome
+pub mod Answered
