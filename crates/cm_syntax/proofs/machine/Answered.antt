@@ -212,3 +212,53 @@ module _ (bytes : List ℕ) (tokens : List LocatedToken) (read : Tokens 0 bytes 
           let program = parses all last r functions some in
           s.unfinished (program.0, program.1 ∙ (sym whole ∙ Tokens-one read s.read))
       none_refused functions some Refusal.size at h = none_size at h
+
+-- ---- the answer
+
+-- what the machine's answer says of the text
+abbrev pub Says : (bytes : List ℕ) → List LocatedToken → Answer → Type 0
+Says bytes tokens (accepted functions) = Parses tokens functions × ((r : Refusal) (at : ℕ) → IsRefused bytes r at → ⊥)
+Says bytes tokens (refused r at) = IsAnswer bytes r at
+
+module _ (bytes : List ℕ) (tokens : List LocatedToken) (read : Tokens 0 bytes tokens) where
+  says_at_end : (all : List CountedToken) (last : State) → Reached start all last → Fit 0 0 all → (rest : List LocatedToken) → tokens ≡ located_tokens all ++ rest → Far rest →
+      Says bytes tokens (end_answer (length bytes) (finish last))
+  says_at_end all last r fit rest parts far = by_end (finish last) refl
+    where
+      by_length : (answer : Answer) (b : Bool) → nat_lt max_source_bytes (length bytes) ≡ b → (length bytes ≤ max_source_bytes → Says bytes tokens answer) →
+          Says bytes tokens (if b then refused Refusal.size max_source_bytes else answer)
+      by_length answer true long says = answer_long bytes tokens read all last r fit rest parts far (ltb-true max_source_bytes (length bytes) long)
+      by_length answer false short says = says (ltb-false max_source_bytes (length bytes) short)
+
+      by_end : (found : Option (List (Function Name))) → finish last ≡ found → Says bytes tokens (end_answer (length bytes) found)
+      by_end None none =
+          by_length (refused Refusal.syntax_ (length bytes)) (nat_lt max_source_bytes (length bytes)) refl (λ short. answer_unfinished bytes tokens read all last r fit rest parts far short none)
+      by_end (Some functions) some =
+          by_length (accepted functions) (nat_lt max_source_bytes (length bytes)) refl (λ short. (
+            subst (λ x. Parses x functions) (sym (whole bytes tokens read all last r fit rest parts far short)) (parses all last r functions some),
+            λ refusal at h. none_refused bytes tokens read all last r fit rest parts far short functions some refusal at h,
+          ))
+
+  says_so : (front rest : List LocatedToken) → tokens ≡ front ++ rest → Far rest → Near front → (answer : Answer) → Outcome (length bytes) start 0 0 front answer → Says bytes tokens answer
+  says_so front rest parts far near _ (stopped before t after last e r fit stop) =
+      answer_stopped bytes tokens read before t (after ++ rest) (parts ∙ (ap (λ x. x ++ rest) e ∙ append_assoc (located_tokens before) (t ∷ after) rest)) last r fit stop
+      (near_at (located_tokens before) t after (subst Near e near))
+  says_so front rest parts far near _ (exceeded before t after last next e r fit more too_much) =
+      answer_exceeded bytes tokens read before t (after ++ rest) (parts ∙ (ap (λ x. x ++ rest) e ∙ append_assoc (located_tokens before) (t.located ∷ after) rest)) last next r fit more too_much
+      (near_at (located_tokens before) t.located after (subst Near e near))
+  says_so front rest parts far near _ (ended all last e r fit) = says_at_end all last r fit rest (parts ∙ ap (λ x. x ++ rest) e) far
+
+  -- the machine's answer to a text says what is so
+  pub answered : Says bytes tokens (text_answer tokens (length bytes))
+  answered =
+      let front = readable_parts tokens in
+      says_so (readable tokens) front.0 front.1 front.2 front.3 (text_answer tokens (length bytes)) (outcome (length bytes) (readable tokens) 0 0 start)
+
+  -- functions are those of a source in which nothing is refused
+  pub accepted_so : (functions : List (Function Name)) → text_answer tokens (length bytes) ≡ accepted functions →
+      IsSourceOf bytes (record { functions = functions; length = length bytes }) × ((r : Refusal) (at : ℕ) → IsRefused bytes r at → ⊥)
+  accepted_so functions e = let says = subst (Says bytes tokens) e answered in ((tokens, read, says.0, refl), says.1)
+
+  -- a refusal is the answer
+  pub refused_so : (r : Refusal) (at : ℕ) → text_answer tokens (length bytes) ≡ refused r at → IsAnswer bytes r at
+  refused_so r at e = subst (Says bytes tokens) e answered
