@@ -15,7 +15,7 @@ token_in_front a b c d t e lt =
     let found = shorter_front (a ++ t ∷ []) b c d (append_assoc a (t ∷ []) b ∙ e) (omega (arith, length-append a (t ∷ []))) in
     (found.0, found.1)
 
-stops_before : (bytes : List ℕ) (i : ℕ) (h : StopsAtToken bytes i) (c d : List LocatedToken) → h.before ++ h.token ∷ h.after ≡ c ++ d → length h.before < length c → BeginsProgram c → ⊥
+pub stops_before : (bytes : List ℕ) (i : ℕ) (h : StopsAtToken bytes i) (c d : List LocatedToken) → h.before ++ h.token ∷ h.after ≡ c ++ d → length h.before < length c → BeginsProgram c → ⊥
 stops_before bytes i h c d e lt begins =
     let found = token_in_front h.before h.after c d h.token e lt in
     h.no_further (BeginsProgram-front (h.before ++ h.token ∷ []) found.0 (subst BeginsProgram found.1 begins))

@@ -5,6 +5,7 @@ pub mod ExpressionTrace
 pub mod StatementTrace
 pub mod ProgramTrace
 pub mod OneTree
+pub mod NumberCap
 mod Rows
 pub mod Written
 pub mod Wanted
@@ -13,5 +14,5 @@ pub mod StatementTakes
 pub mod PlainTakes
 pub mod Takes
 pub mod Reached
-pub mod Outcome
-pub mod Answered
+pub mod Run
+pub mod Answer

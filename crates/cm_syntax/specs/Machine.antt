@@ -478,6 +478,14 @@ is_within (Quantity.operators n) = nat_le n max_operators
 is_within (Quantity.literal literal) = nat_le literal max_literal
 is_within (Quantity.words n) = nat_lt 0 n && nat_le n max_array_words
 
+-- a number that is beyond each limit, as the least such number
+abbrev pub capped_token : Token → Token
+capped_token (Token.number n) = Token.number (if nat_lt max_literal n then max_literal + 1 else n)
+capped_token token = token
+
+abbrev pub capped : LocatedToken → LocatedToken
+capped t = record { token = capped_token t.token; at = t.at }
+
 -- the tokens in front of the first byte that may not be read
 abbrev pub readable : List LocatedToken → List LocatedToken
 readable [] = []

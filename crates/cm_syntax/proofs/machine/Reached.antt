@@ -10,7 +10,6 @@ use Rattle.cm_syntax.specs.Lowering.{lower_program}
 use Rattle.cm_syntax.specs.Grammar.{Parses}
 use Rattle.cm_syntax.specs.Refusal.{IsProgram, BeginsProgram}
 use Rattle.cm_syntax.specs.Machine.{State, Next, goes, stops, step, finish, start}
-use Rattle.cm_syntax.proofs.ProgramLaws.{located-append}
 use Rattle.cm_syntax.proofs.machine.Trace.{Trace, took, stuck, over, next_trace, trace, taken}
 use Rattle.cm_syntax.proofs.machine.OneTree.{program_traced, some_program}
 use Rattle.cm_syntax.proofs.machine.Written.{program_same}
@@ -26,10 +25,6 @@ Reached s (t ∷ tokens) last = (next : State) × (step s t.located.token t.loca
 pub reached_on : (a b : List CountedToken) (s next last : State) → Reached s a next → Reached next b last → Reached s (a ++ b) last
 reached_on [] b s next last r more = subst (λ x. Reached x b last) (sym r) more
 reached_on (t ∷ a) b s next last r more = (r.0, r.1, reached_on a b r.0 next last r.2 more)
-
-pub reached_front : (a b : List CountedToken) (s last : State) → Reached s (a ++ b) last → (next : State) × Reached s a next × Reached next b last
-reached_front [] b s last r = (s, refl, r)
-reached_front (t ∷ a) b s last r = let found = reached_front a b r.0 last r.2 in (found.0, (r.0, r.1, found.1), found.2)
 
 same_quantity : (q p : Quantity) (s r : State) → goes q s ≡ goes p r → q ≡ p
 same_quantity q p s r e = cc
@@ -85,16 +80,6 @@ program_reached p = reached_traced (program_tokens p) start (State.functions_nex
 pub same_counts : (p : grammar.Program) (before : List CountedToken) (more : List LocatedToken) (last : State) → Reached start before last → located_tokens (program_tokens p) ≡ located_tokens before ++ more →
     (rest : List CountedToken) × (program_tokens p ≡ before ++ rest) × (located_tokens rest ≡ more) × Reached last rest (State.functions_next (lower_program p))
 same_counts p before more last r e = determined before (program_tokens p) more start last (State.functions_next (lower_program p)) r (program_reached p) e
-
--- a token of a program that is among tokens that are taken is there with its count
-pub same_among : (p : grammar.Program) (before : List CountedToken) (t : CountedToken) (more : List CountedToken) → program_tokens p ≡ before ++ t ∷ more →
-    (all : List CountedToken) (last : State) → Reached start all last → (rest : List LocatedToken) → located_tokens all ≡ (located_tokens before ++ t.located ∷ []) ++ rest →
-    (behind : List CountedToken) × (all ≡ before ++ t ∷ behind)
-same_among p before t more parts all last r rest e =
-    let final = State.functions_next (lower_program p) in
-    let front = reached_front (before ++ t ∷ []) more start final (subst (λ x. Reached start x final) (parts ∙ sym (append_assoc before (t ∷ []) more)) (program_reached p)) in
-    let found = determined (before ++ t ∷ []) all rest start front.0 last front.1 r (e ∙ ap (λ x. x ++ rest) (sym (located-append before (t ∷ [])))) in
-    (found.0, found.1 ∙ append_assoc before (t ∷ []) found.0)
 
 -- no program begins with tokens that are taken and one at which the machine stops
 pub no_further : (before : List CountedToken) (t : LocatedToken) (last : State) → Reached start before last → step last t.token t.at ≡ stops → BeginsProgram (located_tokens before ++ t ∷ []) → ⊥
