@@ -7,9 +7,7 @@ pub mod TokenLaws
 pub mod RefusalLaws
 pub mod Lexing
 pub mod ProgramLaws
-pub mod SourceRows
 pub mod machine
-pub mod NameRows
 pub mod SoundLaws
 pub mod BoundLaws
 pub mod AnswerLaws

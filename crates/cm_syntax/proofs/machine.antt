@@ -6,7 +6,6 @@ pub mod StatementTrace
 pub mod ProgramTrace
 pub mod OneTree
 pub mod NumberCap
-mod Rows
 pub mod Written
 pub mod Wanted
 pub mod ExpressionTakes
@@ -16,3 +15,4 @@ pub mod Takes
 pub mod Reached
 pub mod Run
 pub mod Answer
+pub mod SourceText

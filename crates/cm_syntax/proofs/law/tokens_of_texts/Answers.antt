@@ -1,17 +1,17 @@
-use Rattle.cm_syntax.proofs.SourceRows.{longest_row, comment_row, words_row, faulty_row, tokens_of}
+use Rattle.cm_syntax.proofs.machine.SourceText.{tokens_of}
 use Rattle.cm_syntax.proofs.law.tokens_of_texts.Goals as goal
 
 pub returns-clause-longest : goal.returns-clause-longest
-returns-clause-longest c = longest_row
+returns-clause-longest c = tokens_of _
 
 pub returns-clause-comment : goal.returns-clause-comment
-returns-clause-comment c = comment_row
+returns-clause-comment c = tokens_of _
 
 pub returns-clause-words : goal.returns-clause-words
-returns-clause-words c = words_row
+returns-clause-words c = tokens_of _
 
 pub returns-clause-faulty : goal.returns-clause-faulty
-returns-clause-faulty c = faulty_row
+returns-clause-faulty c = tokens_of _
 
 pub returns-clause-all_signs : goal.returns-clause-all_signs
 returns-clause-all_signs c = tokens_of _

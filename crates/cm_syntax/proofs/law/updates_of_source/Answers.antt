@@ -1,5 +1,6 @@
-use Rattle.cm_syntax.proofs.NameRows.{updates_row}
+use Rattle.std.proofs.Common.{refl}
+use Rattle.cm_syntax.proofs.machine.SourceText.{has_function}
 use Rattle.cm_syntax.proofs.law.updates_of_source.Goals as goal
 
 pub returns : goal.returns
-returns c = updates_row
+returns c = has_function refl
