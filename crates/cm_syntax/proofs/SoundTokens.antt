@@ -15,7 +15,7 @@ use Rattle.cm_syntax.specs.Lowering.{lower_program}
 use Rattle.cm_syntax.specs.Refusal.{IsTooMuch, Refusal, IsRefused}
 use Rattle.cm_syntax.specs.Machine.{State, Next, goes, stops, step, item, start}
 use Rattle.cm_syntax.proofs.Laying.{Writable, AllWritable}
-use Rattle.cm_syntax.proofs.ProgramLaws.{located-append}
+use Rattle.cm_syntax.proofs.machine.Trace.{located-append}
 use Rattle.cm_syntax.proofs.machine.NumberCap.{BothRefused, both_refused}
 use Rattle.cm_syntax.proofs.machine.Reached.{Reached, program_reached}
 use Rattle.cm_syntax.proofs.machine.Run.{beyond_much}
