@@ -13,11 +13,9 @@ use Rattle.cm_syntax.specs.Grammar.{Parses, IsSourceOf}
 use Rattle.cm_syntax.specs.Refusal.{IsProgram, BeginsProgram, StopsAtToken, StopsAtEnd, Exceeds, IsTooMuch, IsTooNested, Syntax, Size, Refusal, IsRefused, IsAnswer}
 use Rattle.cm_syntax.specs.Machine.{State, goes, stops, step, finish, start, readable, Answer, accepted, refused, end_answer, text_answer}
 use Rattle.cm_syntax.proofs.TokenLaws.{shorter_front, Tokens-one}
-use Rattle.cm_syntax.proofs.RefusalLaws.{token_in_front, stops_before, Syntax-one}
-use Rattle.cm_syntax.proofs.ProgramLaws.{located-append}
-use Rattle.cm_syntax.proofs.BoundLaws.{length-located}
-use Rattle.cm_syntax.proofs.AnswerLaws.{Ascend, ascend_to, tokens_ascend, offset_below, offset_order, exceeds_begins, not_later}
-use Rattle.cm_syntax.proofs.machine.Trace.{regroup}
+use Rattle.cm_syntax.proofs.RefusalLaws.{token_in_front, stops_before, exceeds_begins, not_later, Syntax-one}
+use Rattle.cm_syntax.proofs.OffsetLaws.{Ascend, ascend_to, tokens_ascend, offset_below, offset_order}
+use Rattle.cm_syntax.proofs.machine.Trace.{regroup, located-append, length-located}
 use Rattle.cm_syntax.proofs.machine.Reached.{Reached, reached_on, determined, same_counts, program_reached, begins_program, no_further, parses, unfinished}
 use Rattle.cm_syntax.proofs.machine.Run.{AllWithin, within_at, Front, Outcome, outcome}
 
