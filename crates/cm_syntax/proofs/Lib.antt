@@ -6,11 +6,10 @@ pub mod Spelling
 pub mod TokenLaws
 pub mod RefusalLaws
 pub mod Lexing
-pub mod ProgramLaws
+pub mod YieldLaws
 pub mod machine
 pub mod SoundLaws
-pub mod BoundLaws
-pub mod AnswerLaws
+pub mod OffsetLaws
 pub mod OneAnswer
 pub mod NameLaws
 pub mod NumberLaws

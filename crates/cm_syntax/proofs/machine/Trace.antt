@@ -3,6 +3,7 @@ use Rattle.std.proofs.Common.{◌≡◌, List, [], ◌∷◌, ◌++◌, refl, ap
 use Rattle.cm_syntax.specs.Token.{LocatedToken}
 use Rattle.cm_syntax.specs.ParseTree.{Offset}
 use Rattle.cm_syntax.specs.Yield.{Quantity, CountedToken, located_tokens}
+use Rattle.cm_syntax.proofs.YieldLaws.{regroup}
 use Rattle.cm_syntax.specs.Machine.{State, Next, goes, stops, step}
 
 -- the counts at the tokens that the machine takes, and where it comes to or stops
@@ -27,10 +28,6 @@ taken (t ∷ tokens) more = took t.quantity (taken tokens more)
 pub taken-append : (a b : List CountedToken) (more : Trace) → taken (a ++ b) more ≡ taken a (taken b more)
 taken-append [] b more = refl
 taken-append (t ∷ a) b more = ap (took t.quantity) (taken-append a b more)
-
-pub regroup : (a b : List CountedToken) (rest : List LocatedToken) → located_tokens (a ++ b) ++ rest ≡ located_tokens a ++ (located_tokens b ++ rest)
-regroup [] b rest = refl
-regroup (t ∷ a) b rest = ap (λ x. t.located ∷ x) (regroup a b rest)
 
 -- The machine takes these tokens, in front of this rest, with what is counted at them, and comes to this state. It
 -- may have looked at the first token of the rest.
