@@ -1,7 +1,7 @@
 //! Laws of the definitions, and single texts worked out by hand with which they have to agree. The functions do
 //! nothing: their contracts are the laws.
 
-ghost use Rattle.std.specs.Prelude.{◌≡◌, ◌⊎◌, ◌≤◌, ◌<◌, ◌++◌, [], ◌∷◌, ℕ, List, Bool, pos, neg_ℤ, length, codes, map, replicate, slice_get, Some, None};
+ghost use Rattle.std.specs.Prelude.{◌≡◌, ◌≤◌, ◌<◌, ◌++◌, [], ◌∷◌, ℕ, List, Bool, pos, neg_ℤ, length, codes, map, replicate, slice_get, Some, None};
 ghost use Rattle.cm_syntax.specs.declared.name.Name.{Name};
 ghost use Rattle.cm_syntax.specs.declared.expr.Expr.{Expr};
 ghost use Rattle.cm_syntax.specs.declared.expr.Expr.TheVariants as expression;
@@ -19,7 +19,7 @@ ghost use Rattle.cm_syntax.specs.Token.{Token, LocatedToken, token_at, Tokens};
 ghost use Rattle.cm_syntax.specs.ParseTree as grammar;
 ghost use Rattle.cm_syntax.specs.Yield.{CountedToken, program_tokens, located_tokens};
 ghost use Rattle.cm_syntax.specs.Grammar.{IsExpression, IsPrimary, IsArgument, IsCall, IsItem, AreItems, IsDeclaration, IsTarget, IsSimple, IsPlain, AreStatements, IsStatement, IsBlock, IsParameter, AreParameters, IsFunction, Parses, IsSourceOf};
-ghost use Rattle.cm_syntax.specs.Refusal.{Syntax, Size, Refusal, IsRefused, IsAnswer, IsSoundTree};
+ghost use Rattle.cm_syntax.specs.Refusal.{Syntax, Size, Refusal, IsAnswer, IsSoundTree};
 ghost use Rattle.cm_syntax.specs.Canonical.{canonical};
 ghost use Rattle.cm_syntax.specs.Offset.{without_offsets};
 ghost use Rattle.std.specs.List.{range_with_len};
@@ -75,12 +75,6 @@ pub fn one_count()
     ensures { (a b : grammar.Program) (before others more rest : List CountedToken)
         → program_tokens a ≡ before ++ more → program_tokens b ≡ others ++ rest
         → located_tokens before ≡ located_tokens others → before ≡ others }
-{}
-
-/// Each text is a source of a tree and refused nowhere, or it is answered with a refusal at an offset.
-pub fn each_text()
-    ensures { (bytes : List ℕ) → ((tree : Tree) × IsSourceOf bytes tree × ((refusal : Refusal) (at : ℕ) → IsRefused bytes refusal at → ⊥))
-        ⊎ ((refusal : Refusal) × (at : ℕ) × IsAnswer bytes refusal at) }
 {}
 
 /// Syntax is refused at one offset at most.

@@ -1,12 +1,12 @@
 -- Short source texts by computing: the machine finds their tokens, their trees and their refused offsets.
-use Rattle.std.proofs.Common.{◌≡◌, ℕ, List, [], ◌∷◌, length, map, refl, subst, arith, ◌⊎◌, inl, inr}
+use Rattle.std.proofs.Common.{◌≡◌, ℕ, List, [], ◌∷◌, length, map, refl, subst, arith}
 use Rattle.cm_syntax.specs.declared.name.Name.{Name}
 use Rattle.cm_syntax.specs.declared.stmt.Function.{Function}
 use Rattle.cm_syntax.specs.declared.stmt.Tree.{Tree}
 use Rattle.cm_syntax.specs.Token.{Tokens}
 use Rattle.cm_syntax.specs.ParseTree.{Offset}
 use Rattle.cm_syntax.specs.Grammar.{IsSourceOf}
-use Rattle.cm_syntax.specs.Refusal.{Refusal, IsRefused, IsAnswer}
+use Rattle.cm_syntax.specs.Refusal.{Refusal, IsAnswer}
 use Rattle.cm_syntax.specs.Resolution.{Variable, ResolvesTo}
 use Rattle.cm_syntax.specs.Number.{function_numbers}
 use Rattle.cm_syntax.specs.Fault.{faults, program_of}
@@ -25,15 +25,6 @@ answer_to bytes = text_answer (lexed (length bytes) 0 bytes) (length bytes)
 
 pub answered : (bytes : List ℕ) → IsAnswerTo bytes (answer_to bytes)
 answered bytes = text_answered bytes (lexed (length bytes) 0 bytes) (tokens_of bytes)
-
--- each text is a source and refused nowhere, or has an answer
-pub each_text : (bytes : List ℕ) → ((tree : Tree) × IsSourceOf bytes tree × ((refusal : Refusal) (at : ℕ) → IsRefused bytes refusal at → ⊥)) ⊎ ((refusal : Refusal) × (at : ℕ) × IsAnswer bytes refusal at)
-each_text bytes = by_answer (answer_to bytes) (answered bytes)
-  where
-    by_answer : (answer : Answer) → IsAnswerTo bytes answer →
-        ((tree : Tree) × IsSourceOf bytes tree × ((refusal : Refusal) (at : ℕ) → IsRefused bytes refusal at → ⊥)) ⊎ ((refusal : Refusal) × (at : ℕ) × IsAnswer bytes refusal at)
-    by_answer (accepted functions) a = inl (record { functions = functions; length = length bytes }, a.0, a.1)
-    by_answer (refused refusal at) a = inr (refusal, at, a)
 
 -- a text that is refused
 pub is_refused : {bytes : List ℕ} {refusal : Refusal} {at : Offset} → answer_to bytes ≡ refused refusal at → IsAnswer bytes refusal at
