@@ -13,7 +13,7 @@ use Rattle.cm_syntax.specs.Machine.{State, Next, goes, stops, step, finish, star
 use Rattle.cm_syntax.proofs.machine.Trace.{Trace, took, stuck, over, next_trace, trace, taken}
 use Rattle.cm_syntax.proofs.machine.OneTree.{program_traced, some_program}
 use Rattle.cm_syntax.proofs.machine.Written.{program_same}
-use Rattle.cm_syntax.proofs.machine.Wanted.{Functions, Continues, inhabited}
+use Rattle.cm_syntax.proofs.machine.Wanted.{Functions, Continues, can_go_on}
 use Rattle.cm_syntax.proofs.machine.ExpressionTakes.{Enters}
 use Rattle.cm_syntax.proofs.machine.Takes.{takes, Ends, finishes}
 
@@ -108,7 +108,7 @@ program_follows w (Functions.some p, can, same) = (p, sym (same ∙ (program_sam
 
 -- tokens that are taken begin a program
 pub begins_program : (before : List CountedToken) (last : State) → Reached start before last → BeginsProgram (located_tokens before)
-begins_program before last r = let more = inhabited last in (more.0, program_follows (located_tokens before ++ more.0) (follows before start last more.0 r more.1))
+begins_program before last r = let more = can_go_on last in (more.0, program_follows (located_tokens before ++ more.0) (follows before start last more.0 r more.1))
 
 -- ---- the end
 
