@@ -1,23 +1,22 @@
 -- The answer of the machine to a text is the answer of the definitions, so each text has one.
 use Rattle.std.proofs.Common.{◌≡◌, ℕ, ◌+◌, ◌<◌, ◌≤◌, Bool, true, false, List, [], ◌∷◌, ◌++◌, length, refl, sym, ap, ◌∙◌, subst, arith, Option, None, Some, ◌⊎◌, inl, inr, append_assoc, append-nil, length-append, if◌then◌else◌}
 use Rattle.std.specs.Prelude.{nat_lt}
-use Rattle.std.proofs.lemmas.Bool.{cases_lt, ltb-true, ltb-false, lt-ltb, true≢false}
+use Rattle.std.proofs.lemmas.Bool.{cases_lt, ltb-true, ltb-false}
 use Rattle.cm_syntax.specs.declared.name.Name.{Name}
 use Rattle.cm_syntax.specs.declared.stmt.Function.{Function}
-use Rattle.cm_syntax.specs.declared.stmt.Tree.{Tree}
 use Rattle.cm_syntax.specs.Limit.{max_source_bytes}
 use Rattle.cm_syntax.specs.Token.{LocatedToken, Tokens}
-use Rattle.cm_syntax.specs.Yield.{CountedToken, program_tokens, located_tokens}
+use Rattle.cm_syntax.specs.Yield.{CountedToken, located_tokens}
 use Rattle.cm_syntax.specs.Lowering.{lower_program}
 use Rattle.cm_syntax.specs.Grammar.{Parses, IsSourceOf}
-use Rattle.cm_syntax.specs.Refusal.{IsProgram, BeginsProgram, StopsAtToken, StopsAtEnd, Exceeds, IsTooMuch, IsTooNested, Syntax, Size, Refusal, IsRefused, IsAnswer}
+use Rattle.cm_syntax.specs.Refusal.{StopsAtToken, StopsAtEnd, Exceeds, IsTooMuch, IsTooNested, Size, Refusal, IsRefused, IsAnswer}
 use Rattle.cm_syntax.specs.Machine.{State, goes, stops, step, finish, start, readable, Answer, accepted, refused, end_answer, text_answer}
-use Rattle.cm_syntax.proofs.TokenLaws.{shorter_front, Tokens-one}
-use Rattle.cm_syntax.proofs.RefusalLaws.{token_in_front, stops_before, exceeds_begins, not_later, Syntax-one}
-use Rattle.cm_syntax.proofs.OffsetLaws.{Ascend, ascend_to, tokens_ascend, offset_below, offset_order}
-use Rattle.cm_syntax.proofs.machine.Trace.{regroup, located-append, length-located}
+use Rattle.cm_syntax.proofs.TokenLaws.{Tokens-one}
+use Rattle.cm_syntax.proofs.RefusalLaws.{token_in_front, stops_before, Syntax-one}
+use Rattle.cm_syntax.proofs.YieldLaws.{regroup, located-append, length-located}
+use Rattle.cm_syntax.proofs.OffsetLaws.{Ascend, ascend_to, tokens_ascend, offset_below, offset_order, exceeds_begins, not_later}
 use Rattle.cm_syntax.proofs.machine.Reached.{Reached, reached_on, determined, same_counts, program_reached, begins_program, no_further, parses, unfinished}
-use Rattle.cm_syntax.proofs.machine.Run.{AllWithin, within_at, Front, Outcome, outcome}
+use Rattle.cm_syntax.proofs.machine.Run.{AllWithin, within_at, Outcome, outcome}
 
 -- what the answer to a text means: its functions, where no offset is refused, or the refused offset that is answered
 abbrev pub IsAnswerTo : (bytes : List ℕ) → Answer → Type 0

@@ -1,7 +1,7 @@
 -- A token that is taken in a state of an expression, with what may follow the next state, may follow the state.
 use Rattle.std.proofs.Common.{◌≡◌, ℕ, ◌+◌, ◌<◌, ◌≤◌, Bool, true, false, List, [], ◌∷◌, ◌++◌, refl, sym, ap, ◌∙◌, subst, arith, Option, None, Some, pos}
 use Rattle.std.specs.Prelude.{nat_lt, if◌then◌else◌}
-use Rattle.std.proofs.lemmas.Bool.{true≢false, false≢true, ltb-false, ltb-true}
+use Rattle.std.proofs.lemmas.Bool.{ltb-false, ltb-true}
 use Rattle.cm_syntax.specs.declared.name.Name.{Name}
 use Rattle.cm_syntax.specs.declared.expr.Op.{Op}
 use Rattle.cm_syntax.specs.declared.expr.Op.TheVariants as op
@@ -9,20 +9,18 @@ use Rattle.cm_syntax.specs.declared.expr.Expr.{Expr}
 use Rattle.cm_syntax.specs.declared.expr.Expr.TheVariants as expression
 use Rattle.cm_syntax.specs.declared.expr.Arg.{Arg}
 use Rattle.cm_syntax.specs.declared.expr.Arg.TheVariants as argument
-use Rattle.cm_syntax.specs.declared.expr.Call.{Call}
 use Rattle.cm_syntax.specs.declared.token.Keyword.{Keyword}
 use Rattle.cm_syntax.specs.declared.token.Keyword.TheVariants as keyword
 use Rattle.cm_syntax.specs.declared.token.Sign.{Sign}
 use Rattle.cm_syntax.specs.declared.token.Sign.TheVariants as sign
-use Rattle.cm_syntax.specs.Text.{is_same, keyword_text, sign_text}
 use Rattle.cm_syntax.specs.Token.{Token, LocatedToken, token_at}
 use Rattle.cm_syntax.specs.ParseTree.{Mark, Offset, is_unary, level_of, Expression, Arguments, Argument, AnyExpression}
 use Rattle.cm_syntax.specs.ParseTree as grammar
 use Rattle.cm_syntax.specs.Yield.{Quantity, sign_of}
-use Rattle.cm_syntax.specs.Machine.{State, Next, goes, stops, on, step, is_sign, is_word, whole, value, operator_of, operator_step, operand_step, value_step, argument_step, call, call_of, name_step}
+use Rattle.cm_syntax.specs.Machine.{State, Next, goes, stops, step, is_sign, is_word, whole, value, operator_step, operand_step, value_step, argument_step, call_of, name_step}
 use Rattle.cm_syntax.proofs.machine.Front.{sign_token, word_token}
 use Rattle.cm_syntax.proofs.machine.ExpressionTrace.{level_bounds, unary_level}
-use Rattle.cm_syntax.proofs.machine.Written.{sign_then, name_then, expression_then, argument_then, any_then, optional_then}
+use Rattle.cm_syntax.proofs.machine.Written.{sign_then, name_then, expression_then, argument_then, any_then}
 use Rattle.cm_syntax.proofs.machine.Wanted.{Begins, begins, AtLeast, at_least_then, Tail, tail_then, Closed, closed_then, FirstArguments, first_arguments_then, NextArguments, next_arguments_then, MoreArguments, more_arguments_then, OperandName, operand_name_then, Continues}
 
 -- what may follow behind a token by what the token does

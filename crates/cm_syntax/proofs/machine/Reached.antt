@@ -1,6 +1,6 @@
 -- Tokens that the machine takes are the first ones of a program, with the counts of each program that they begin; where
 -- it stops at a token none begins with this token as well; and where the tokens may end they are a program.
-use Rattle.std.proofs.Common.{◌≡◌, ℕ, List, [], ◌∷◌, ◌++◌, refl, sym, ap, ◌∙◌, subst, Option, None, Some, append_assoc, append-nil}
+use Rattle.std.proofs.Common.{◌≡◌, List, [], ◌∷◌, ◌++◌, refl, sym, ap, ◌∙◌, subst, Option, None, Some, append_assoc, append-nil}
 use Rattle.cm_syntax.specs.declared.name.Name.{Name}
 use Rattle.cm_syntax.specs.declared.stmt.Function.{Function}
 use Rattle.cm_syntax.specs.Token.{LocatedToken}
@@ -10,7 +10,7 @@ use Rattle.cm_syntax.specs.Lowering.{lower_program}
 use Rattle.cm_syntax.specs.Grammar.{Parses}
 use Rattle.cm_syntax.specs.Refusal.{IsProgram, BeginsProgram}
 use Rattle.cm_syntax.specs.Machine.{State, Next, goes, stops, step, finish, start}
-use Rattle.cm_syntax.proofs.machine.Trace.{Trace, took, stuck, over, next_trace, trace, taken}
+use Rattle.cm_syntax.proofs.machine.Trace.{took, over, next_trace, trace, taken}
 use Rattle.cm_syntax.proofs.machine.OneTree.{program_traced, some_program}
 use Rattle.cm_syntax.proofs.machine.Written.{program_same}
 use Rattle.cm_syntax.proofs.machine.Wanted.{Functions, Continues, can_go_on}

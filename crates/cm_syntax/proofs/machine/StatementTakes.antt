@@ -1,13 +1,10 @@
 -- A token that is taken in a state of a declaration or a statement, with what may follow the next state, may follow the
 -- state.
-use Rattle.std.proofs.Common.{◌≡◌, ℕ, ◌+◌, Bool, true, false, List, [], ◌∷◌, ◌++◌, refl, sym, ap, ◌∙◌, subst, Option, None, Some, pos}
-use Rattle.std.specs.Prelude.{if◌then◌else◌}
+use Rattle.std.proofs.Common.{◌≡◌, ℕ, true, false, List, [], ◌∷◌, refl, ◌∙◌, subst, None, Some, pos}
 use Rattle.cm_syntax.specs.declared.name.Name.{Name}
 use Rattle.cm_syntax.specs.declared.expr.Op.{Op}
 use Rattle.cm_syntax.specs.declared.expr.Op.TheVariants as op
-use Rattle.cm_syntax.specs.declared.expr.Expr.{Expr}
 use Rattle.cm_syntax.specs.declared.expr.Expr.TheVariants as expression
-use Rattle.cm_syntax.specs.declared.expr.Arg.{Arg}
 use Rattle.cm_syntax.specs.declared.expr.Call.{Call}
 use Rattle.cm_syntax.specs.declared.stmt.Slot.TheVariants as slot
 use Rattle.cm_syntax.specs.declared.stmt.Item.{Item}
@@ -16,16 +13,15 @@ use Rattle.cm_syntax.specs.declared.stmt.Target.TheVariants as target
 use Rattle.cm_syntax.specs.declared.stmt.Stmt.{Stmt}
 use Rattle.cm_syntax.specs.declared.stmt.Stmt.TheVariants as statement
 use Rattle.cm_syntax.specs.declared.token.Keyword.TheVariants as keyword
-use Rattle.cm_syntax.specs.declared.token.Sign.{Sign}
 use Rattle.cm_syntax.specs.declared.token.Sign.TheVariants as sign
 use Rattle.cm_syntax.specs.Token.{Token, LocatedToken, token_at}
 use Rattle.cm_syntax.specs.ParseTree.{Mark, Offset, is_update, AnyExpression, Declaration, Simple, FirstPart, Plain, Statements}
 use Rattle.cm_syntax.specs.ParseTree as grammar
 use Rattle.cm_syntax.specs.Yield.{Quantity, update_sign}
-use Rattle.cm_syntax.specs.Machine.{State, Next, goes, stops, on, step, is_sign, is_word, value, value_step, call, call_of, item, declarator, declaration, words_step, count_on, pointee, target_step, update_operator, update_step, writing_step, simple_name_step, simple_step, with_semicolon, parenthesized, body, for_parts, split_parts, spawned, plain_step, statement_step}
-use Rattle.cm_syntax.proofs.machine.Written.{sign_then, word_then, name_then, call_then, any_then, optional_then, item_then, items_then, declaration_then, target_then, simple_then, first_part_then, last_part_then, plain_then, statements_then}
-use Rattle.cm_syntax.proofs.machine.Wanted.{Begins, begins, Closed, closed_then, FirstArguments, first_arguments_then, ItemName, item_name_then, Words, MoreItems, more_items_then, TargetName, target_name_then, Writing, writing_then, SimpleName, simple_name_then, AnyPlain, any_plain_then, Destination, destination_then, PlainName, plain_name_then, Otherwise, otherwise_then, Block, block_then, Continues}
-use Rattle.cm_syntax.proofs.machine.ExpressionTakes.{Enters, by_either, by_sign, by_word, BehindValue, value_begins, closed_begins, value_takes}
+use Rattle.cm_syntax.specs.Machine.{State, step, is_sign, call_of, item, declarator, declaration, words_step, count_on, pointee, target_step, update_step, writing_step, simple_name_step, simple_step}
+use Rattle.cm_syntax.proofs.machine.Written.{sign_then, word_then, name_then, call_then, any_then, item_then, items_then, declaration_then, target_then, simple_then, first_part_then, last_part_then}
+use Rattle.cm_syntax.proofs.machine.Wanted.{Begins, begins, Closed, closed_then, FirstArguments, first_arguments_then, ItemName, item_name_then, Words, MoreItems, more_items_then, TargetName, target_name_then, Writing, writing_then, SimpleName, simple_name_then, Continues}
+use Rattle.cm_syntax.proofs.machine.ExpressionTakes.{Enters, by_either, by_sign, by_word, BehindValue, value_begins, closed_begins}
 
 -- behind a statement a continuation goes on
 abbrev pub BehindStatement : (Stmt Name → State) → List LocatedToken → Type 0

@@ -1,9 +1,8 @@
 -- What may follow in each state of the machine, up to the end of a text: the parts that are wanted one after another.
 -- It is said of tokens alone. A continuation goes on behind some tree of the part that is read.
-use Rattle.std.proofs.Common.{◌≡◌, ℕ, ◌≤◌, ◌<◌, Bool, true, false, List, [], ◌∷◌, ◌++◌, refl, arith, Option, None, Some, pos}
+use Rattle.std.proofs.Common.{◌≡◌, ℕ, ◌≤◌, ◌<◌, Bool, true, false, List, [], ◌∷◌, refl, arith, Option, None}
 use Rattle.cm_syntax.specs.declared.name.Name.{Name}
 use Rattle.cm_syntax.specs.declared.expr.Op.{Op}
-use Rattle.cm_syntax.specs.declared.expr.Op.TheVariants as op
 use Rattle.cm_syntax.specs.declared.expr.Expr.{Expr}
 use Rattle.cm_syntax.specs.declared.expr.Expr.TheVariants as expression
 use Rattle.cm_syntax.specs.declared.expr.Arg.{Arg}
@@ -21,7 +20,7 @@ use Rattle.cm_syntax.specs.Token.{Token, LocatedToken, token_at}
 use Rattle.cm_syntax.specs.ParseTree.{Mark, Offset, is_unary, is_update, level_of, Expression, Arguments, Argument, AnyExpression, Simple, FirstPart, Plain, Statements, ParameterList, Parameters}
 use Rattle.cm_syntax.specs.ParseTree as grammar
 use Rattle.cm_syntax.specs.Yield.{sign_of, update_sign, step_sign}
-use Rattle.cm_syntax.specs.Machine.{State, item, count_on}
+use Rattle.cm_syntax.specs.Machine.{State, item}
 use Rattle.cm_syntax.proofs.machine.Written.{sign_then, word_then, name_then, expression_then, call_then, arguments_then, any_then, optional_then, items_then, target_then, simple_then, first_part_then, last_part_then, plain_then, statements_then, parameter_list_then, parameters_then, function_then, program_then}
 
 -- the tokens are those of some x, and what follows them is so
