@@ -20,6 +20,7 @@ ghost use Rattle.cm_syntax.specs.ParseTree as grammar;
 ghost use Rattle.cm_syntax.specs.Yield.{CountedToken, program_tokens, located_tokens};
 ghost use Rattle.cm_syntax.specs.Grammar.{IsExpression, IsPrimary, IsArgument, IsCall, IsItem, AreItems, IsDeclaration, IsTarget, IsSimple, IsPlain, AreStatements, IsStatement, IsBlock, IsParameter, AreParameters, IsFunction, Parses, IsSourceOf};
 ghost use Rattle.cm_syntax.specs.Refusal.{Syntax, Size, Refusal, IsAnswer, HasNoRefusal, IsSoundTree};
+ghost use Rattle.cm_syntax.specs.Machine.{text_answer, IsAnswerTo};
 ghost use Rattle.cm_syntax.specs.Canonical.{canonical};
 ghost use Rattle.cm_syntax.specs.Offset.{without_offsets};
 ghost use Rattle.std.specs.List.{range_with_len};
@@ -96,6 +97,12 @@ pub fn every_text_is_answered()
         ⊎ ((refusal : Refusal) × (at : ℕ) × IsAnswer bytes refusal at) }
     ensures one { (bytes : List ℕ) (refusal : Refusal) (at : ℕ) → HasNoRefusal bytes
         → IsAnswer bytes refusal at → ⊥ }
+{}
+
+/// The answer that the machine gives to the tokens of a text is the text's answer.
+pub fn answers_of_machine()
+    ensures { (bytes : List ℕ) (tokens : List LocatedToken) → Tokens 0 bytes tokens
+        → IsAnswerTo bytes (text_answer tokens (length bytes)) }
 {}
 
 /// What a mention stands for has its slot among the slots of its function, and the slot is of its kind.
