@@ -29,7 +29,8 @@ use Rattle.cm_syntax.specs.Token.{Token, LocatedToken}
 use Rattle.cm_syntax.specs.ParseTree.{Mark, Offset, level_of}
 use Rattle.cm_syntax.specs.Yield.{Quantity}
 use Rattle.cm_syntax.specs.Limit.{max_source_bytes, max_depth, max_open_brackets, max_operators, max_literal, max_array_words}
-use Rattle.cm_syntax.specs.Refusal.{Refusal, is_opening, is_closing}
+use Rattle.cm_syntax.specs.Grammar.{IsSourceOf}
+use Rattle.cm_syntax.specs.Refusal.{Refusal, IsAnswer, HasNoRefusal, is_opening, is_closing}
 
 -- ---- tokens
 
@@ -519,3 +520,8 @@ module _ (length : ℕ) where
 -- the answer to a text by its tokens and its length
 abbrev pub text_answer : List LocatedToken → (length : ℕ) → Answer
 text_answer tokens length = run length start (nested_tokens 0 0 (readable tokens))
+
+-- what the answer to a text means: its functions, where no offset is refused, or the refused offset that is answered
+abbrev pub IsAnswerTo : (bytes : List ℕ) → Answer → Type 0
+IsAnswerTo bytes (accepted functions) = IsSourceOf bytes (record { functions = functions; length = length bytes }) × HasNoRefusal bytes
+IsAnswerTo bytes (refused refusal at) = IsAnswer bytes refusal at

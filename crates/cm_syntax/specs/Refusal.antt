@@ -103,6 +103,10 @@ pub record IsAnswer (bytes : List ℕ) (refusal : Refusal) (at : ℕ) : Type 0 w
   pub least : (other : Refusal) (offset : ℕ) → IsRefused bytes other offset → at ≤ offset
   pub size_first : refusal ≡ syntax_ → Size bytes at → ⊥
 
+-- no offset is refused
+abbrev pub HasNoRefusal : (bytes : List ℕ) → Type 0
+HasNoRefusal bytes = (refusal : Refusal) (at : ℕ) → IsRefused bytes refusal at → ⊥
+
 -- the tree of a source that has no refused offset
 abbrev pub IsSoundTree : Tree → Type 0
-IsSoundTree tree = (bytes : List ℕ) × IsSourceOf bytes tree × ((refusal : Refusal) (at : ℕ) → IsRefused bytes refusal at → ⊥)
+IsSoundTree tree = (bytes : List ℕ) × IsSourceOf bytes tree × HasNoRefusal bytes

@@ -1,7 +1,7 @@
 //! Laws of the definitions, and single texts worked out by hand with which they have to agree. The functions do
 //! nothing: their contracts are the laws.
 
-ghost use Rattle.std.specs.Prelude.{◌≡◌, ◌≤◌, ◌<◌, ◌++◌, [], ◌∷◌, ℕ, List, Bool, pos, neg_ℤ, length, codes, map, replicate, slice_get, Some, None};
+ghost use Rattle.std.specs.Prelude.{◌≡◌, ◌≤◌, ◌<◌, ◌⊎◌, ◌++◌, [], ◌∷◌, ℕ, List, Bool, pos, neg_ℤ, length, codes, map, replicate, slice_get, Some, None};
 ghost use Rattle.cm_syntax.specs.declared.name.Name.{Name};
 ghost use Rattle.cm_syntax.specs.declared.expr.Expr.{Expr};
 ghost use Rattle.cm_syntax.specs.declared.expr.Expr.TheVariants as expression;
@@ -19,7 +19,8 @@ ghost use Rattle.cm_syntax.specs.Token.{Token, LocatedToken, token_at, Tokens};
 ghost use Rattle.cm_syntax.specs.ParseTree as grammar;
 ghost use Rattle.cm_syntax.specs.Yield.{CountedToken, program_tokens, located_tokens};
 ghost use Rattle.cm_syntax.specs.Grammar.{IsExpression, IsPrimary, IsArgument, IsCall, IsItem, AreItems, IsDeclaration, IsTarget, IsSimple, IsPlain, AreStatements, IsStatement, IsBlock, IsParameter, AreParameters, IsFunction, Parses, IsSourceOf};
-ghost use Rattle.cm_syntax.specs.Refusal.{Syntax, Size, Refusal, IsAnswer, IsSoundTree};
+ghost use Rattle.cm_syntax.specs.Refusal.{Syntax, Size, Refusal, IsAnswer, HasNoRefusal, IsSoundTree};
+ghost use Rattle.cm_syntax.specs.Machine.{text_answer, IsAnswerTo};
 ghost use Rattle.cm_syntax.specs.Canonical.{canonical};
 ghost use Rattle.cm_syntax.specs.Offset.{without_offsets};
 ghost use Rattle.std.specs.List.{range_with_len};
@@ -88,6 +89,20 @@ pub fn one_answer()
         → IsAnswer bytes s j → (r ≡ s) × (i ≡ j) }
     ensures names { (tree : Tree) (i j : ℕ) (u v : Variant) → IsNameAnswer tree i u
         → IsNameAnswer tree j v → (i ≡ j) × (u ≡ v) }
+{}
+
+/// Each text has exactly one answer: it is a source and no offset of it is refused, or a refusal is answered.
+pub fn every_text_is_answered()
+    ensures some { (bytes : List ℕ) → ((tree : Tree) × IsSourceOf bytes tree × HasNoRefusal bytes)
+        ⊎ ((refusal : Refusal) × (at : ℕ) × IsAnswer bytes refusal at) }
+    ensures one { (bytes : List ℕ) (refusal : Refusal) (at : ℕ) → HasNoRefusal bytes
+        → IsAnswer bytes refusal at → ⊥ }
+{}
+
+/// The answer that the machine gives to the tokens of a text is the text's answer.
+pub fn answers_of_machine()
+    ensures { (bytes : List ℕ) (tokens : List LocatedToken) → Tokens 0 bytes tokens
+        → IsAnswerTo bytes (text_answer tokens (length bytes)) }
 {}
 
 /// What a mention stands for has its slot among the slots of its function, and the slot is of its kind.

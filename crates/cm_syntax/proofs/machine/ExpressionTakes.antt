@@ -87,11 +87,11 @@ record Attached (level : ℕ) {first : ℕ} (e : Expression first) (tail : Tail 
   made : Expression own
   same : (rest : List LocatedToken) → expression_then made rest ≡ expression_then e (tail_then tail rest)
 
-attached : {level : ℕ} (tail : Tail level) {own : ℕ} (e : Expression own) → level ≤ own → Attached level e tail
-attached Tail.end e le = record { own = _; tight = le; made = e; same = λ rest. refl }
-attached {level} (Tail.more o binary low at right loose t) e le =
+attach : {level : ℕ} (tail : Tail level) {own : ℕ} (e : Expression own) → level ≤ own → Attached level e tail
+attach Tail.end e le = record { own = _; tight = le; made = e; same = λ rest. refl }
+attach {level} (Tail.more o binary low at right loose t) e le =
     let one = insert o binary at right loose level e le low in
-    let all = attached t one.made one.tight in
+    let all = attach t one.made one.tight in
     record { own = all.own; tight = all.tight; made = all.made; same = λ rest. all.same rest ∙ one.same (tail_then t rest) }
 
 -- ---- where an expression is wanted
@@ -106,7 +106,7 @@ BehindValue k rest = (e : Expr Name) × Continues (k e) rest
 
 whole_begins : (level n : ℕ) (k : Expr Name → ℕ → State) (w : List LocatedToken) → level ≤ 11 → Continues (whole level n k) w → Begins (at_least_then {level = level}) (Behind k) w
 whole_begins level n k w low (begins (AtLeast.at_least tight e) _ (tree, m, begins tail rest h)) =
-    let all = attached tail e (omega (arith, tight)) in
+    let all = attach tail e (omega (arith, tight)) in
     subst (Begins (at_least_then {level = level}) (Behind k)) (all.same rest) (begins (AtLeast.at_least all.tight all.made) rest h)
 
 pub value_begins : (k : Expr Name → State) (w : List LocatedToken) → Continues (value k) w → Begins any_then (BehindValue k) w

@@ -18,18 +18,10 @@ use Rattle.cm_syntax.specs.Machine.{State, step, finish, item, parameter, parame
 use Rattle.cm_syntax.proofs.machine.Written.{sign_then, word_then, parameter_then, parameter_list_then, cilk_then, function_then}
 use Rattle.cm_syntax.proofs.machine.Wanted.{Begins, begins, Tail, OperandName, ItemName, MoreItems, TargetName, Otherwise, Block, Declarator, declarator_then, ParameterName, parameter_name_then, FirstParameters, first_parameters_then, MoreParameters, more_parameters_then, ReturnType, Functions, Continues}
 use Rattle.cm_syntax.proofs.machine.ExpressionTakes.{Enters, by_sign, by_word, operand_takes, operand_name_takes, operators_take, name_takes, argument_takes, first_argument_takes, more_arguments_take, optional_takes}
-use Rattle.cm_syntax.proofs.machine.StatementTakes.{words_take, item_name_takes, more_items_take, target_takes, target_name_takes, writing_takes, simple_takes, simple_name_takes, first_part_takes, last_part_takes}
+use Rattle.cm_syntax.proofs.machine.StatementTakes.{BehindItem, BehindItems, words_take, item_name_takes, more_items_take, target_takes, target_name_takes, writing_takes, simple_takes, simple_name_takes, first_part_takes, last_part_takes}
 use Rattle.cm_syntax.proofs.machine.PlainTakes.{plain_takes, destination_takes, plain_name_takes, otherwise_takes, statements_take}
 
 -- ---- parameters
-
--- behind parameters a continuation goes on
-abbrev BehindItems : (List (Item Name) → State) → List LocatedToken → Type 0
-BehindItems k rest = (all : List (Item Name)) × Continues (k all) rest
-
--- behind a parameter a continuation goes on
-abbrev BehindItem : (Item Name → State) → List LocatedToken → Type 0
-BehindItem k rest = (i : Item Name) × Continues (k i) rest
 
 parameter_takes : (token : Token) (at : Offset) (k : Item Name → State) (w : List LocatedToken) → Enters (parameter_step token at k) w → Continues (State.parameter_declarator k) (token_at token at ∷ w)
 parameter_takes (Token.name x) at k w h = by_name w h
