@@ -6,9 +6,10 @@ pub mod Spelling
 pub mod TokenLaws
 pub mod RefusalLaws
 pub mod Lexing
-pub mod OffsetLaws
+pub mod YieldLaws
 pub mod machine
 pub mod SoundLaws
+pub mod OffsetLaws
 pub mod OneAnswer
 pub mod NameLaws
 pub mod NumberLaws

@@ -1,7 +1,13 @@
--- The offsets of the tokens of a text ascend, and are below its length.
-use Rattle.std.proofs.Common.{◌≡◌, ◌≢◌, ℕ, suc, ◌+◌, ◌<◌, ◌≤◌, List, [], ◌∷◌, ◌++◌, length, refl, ap, ◌∙◌, subst, arith, length-append}
+-- The offsets of the tokens of a text ascend, and what passes a limit begins a program.
+use Rattle.std.proofs.Common.{◌≡◌, ◌≢◌, ℕ, suc, ◌+◌, ◌<◌, ◌≤◌, List, [], ◌∷◌, ◌++◌, length, refl, sym, ap, ◌∙◌, subst, arith, append_assoc, length-append}
 use Rattle.cm_syntax.specs.Token.{LocatedToken, Tokens}
-use Rattle.cm_syntax.proofs.TokenLaws.{token_some}
+use Rattle.cm_syntax.specs.Yield.{located_tokens}
+use Rattle.cm_syntax.specs.Refusal.{BeginsProgram, Exceeds}
+use Rattle.cm_syntax.proofs.TokenLaws.{shorter_front, Tokens-one, token_some}
+use Rattle.cm_syntax.proofs.RefusalLaws.{BeginsProgram-front}
+use Rattle.cm_syntax.proofs.YieldLaws.{located-append}
+
+-- ---- offsets ascend
 
 -- the offsets are at least `low`, ascend, and are below `high`
 abbrev pub Ascend : (low high : ℕ) → List LocatedToken → Type 0
@@ -51,3 +57,22 @@ offset_order low high (v ∷ before) t after [] u rest h e le = absurd (omega ar
 offset_order low high (v ∷ before) t after (x ∷ later) u rest h e le =
     let tails : before ++ t ∷ after ≡ later ++ u ∷ rest = cc in
     offset_order (v.at + 1) high before t after later u rest h.2 tails (omega arith)
+
+-- ---- what passes a limit begins a program
+
+pub exceeds_begins : (bytes : List ℕ) (at : ℕ) (h : Exceeds bytes at) → BeginsProgram (located_tokens h.before ++ h.token.located ∷ [])
+exceeds_begins bytes at h = (
+  located_tokens h.more,
+  (
+    h.source,
+    ap located_tokens h.begins ∙ (located-append h.before (h.token ∷ h.more) ∙ sym (append_assoc (located_tokens h.before) (h.token.located ∷ []) (located_tokens h.more))),
+  ),
+)
+
+-- the tokens up to one that is not later begin a program as well
+pub not_later : (bytes : List ℕ) (a : List LocatedToken) (t : LocatedToken) (b c : List LocatedToken) (u : LocatedToken) (d : List LocatedToken) → Tokens 0 bytes (a ++ t ∷ b) → Tokens 0 bytes (c ++ u ∷ d) →
+    length a ≤ length c → BeginsProgram (c ++ u ∷ []) → BeginsProgram (a ++ t ∷ [])
+not_later bytes a t b c u d read other le begins =
+    let same : (a ++ t ∷ []) ++ b ≡ (c ++ u ∷ []) ++ d = append_assoc a (t ∷ []) b ∙ (Tokens-one read other ∙ sym (append_assoc c (u ∷ []) d)) in
+    let found = shorter_front (a ++ t ∷ []) b (c ++ u ∷ []) d same (omega (arith, length-append a (t ∷ []), length-append c (u ∷ []))) in
+    BeginsProgram-front (a ++ t ∷ []) found.0 (subst BeginsProgram found.1 begins)

@@ -1,10 +1,8 @@
 -- Syntax is refused at one offset at most.
-use Rattle.std.proofs.Common.{◌≡◌, ℕ, ◌<◌, ◌≤◌, List, [], ◌∷◌, ◌++◌, length, sym, ap, ◌∙◌, subst, arith, inl, inr, append_assoc, length-append}
+use Rattle.std.proofs.Common.{◌≡◌, ℕ, ◌<◌, List, [], ◌∷◌, ◌++◌, length, sym, ap, ◌∙◌, subst, arith, inl, inr, append_assoc, length-append}
 use Rattle.std.proofs.lemmas.Bool.{cases_order}
-use Rattle.cm_syntax.specs.Token.{LocatedToken, Tokens}
-use Rattle.cm_syntax.specs.Yield.{located_tokens}
-use Rattle.cm_syntax.specs.Refusal.{BeginsProgram, IsProgram, StopsAtToken, StopsAtEnd, Syntax, Exceeds}
-use Rattle.cm_syntax.proofs.machine.Trace.{located-append}
+use Rattle.cm_syntax.specs.Token.{LocatedToken}
+use Rattle.cm_syntax.specs.Refusal.{BeginsProgram, IsProgram, StopsAtToken, StopsAtEnd, Syntax}
 use Rattle.cm_syntax.proofs.TokenLaws.{shorter_front, equal_fronts, Tokens-one}
 
 -- what begins a program has fronts that do
@@ -16,24 +14,6 @@ pub token_in_front : (a b c d : List LocatedToken) (t : LocatedToken) → a ++ t
 token_in_front a b c d t e lt =
     let found = shorter_front (a ++ t ∷ []) b c d (append_assoc a (t ∷ []) b ∙ e) (omega (arith, length-append a (t ∷ []))) in
     (found.0, found.1)
-
--- the tokens up to one that is not later begin a program as well
-pub not_later : (bytes : List ℕ) (a : List LocatedToken) (t : LocatedToken) (b c : List LocatedToken) (u : LocatedToken) (d : List LocatedToken) → Tokens 0 bytes (a ++ t ∷ b) → Tokens 0 bytes (c ++ u ∷ d) →
-    length a ≤ length c → BeginsProgram (c ++ u ∷ []) → BeginsProgram (a ++ t ∷ [])
-not_later bytes a t b c u d read other le begins =
-    let same : (a ++ t ∷ []) ++ b ≡ (c ++ u ∷ []) ++ d = append_assoc a (t ∷ []) b ∙ (Tokens-one read other ∙ sym (append_assoc c (u ∷ []) d)) in
-    let found = shorter_front (a ++ t ∷ []) b (c ++ u ∷ []) d same (omega (arith, length-append a (t ∷ []), length-append c (u ∷ []))) in
-    BeginsProgram-front (a ++ t ∷ []) found.0 (subst BeginsProgram found.1 begins)
-
--- what passes a limit begins a program
-pub exceeds_begins : (bytes : List ℕ) (at : ℕ) (h : Exceeds bytes at) → BeginsProgram (located_tokens h.before ++ h.token.located ∷ [])
-exceeds_begins bytes at h = (
-  located_tokens h.more,
-  (
-    h.source,
-    ap located_tokens h.begins ∙ (located-append h.before (h.token ∷ h.more) ∙ sym (append_assoc (located_tokens h.before) (h.token.located ∷ []) (located_tokens h.more))),
-  ),
-)
 
 pub stops_before : (bytes : List ℕ) (i : ℕ) (h : StopsAtToken bytes i) (c d : List LocatedToken) → h.before ++ h.token ∷ h.after ≡ c ++ d → length h.before < length c → BeginsProgram c → ⊥
 stops_before bytes i h c d e lt begins =

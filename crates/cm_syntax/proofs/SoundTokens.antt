@@ -1,24 +1,19 @@
 -- The tokens of a source without a refused offset can be written.
-use Rattle.std.proofs.Common.{◌≡◌, ℕ, ◌≤◌, ◌<◌, List, [], ◌∷◌, ◌++◌, map, refl, sym, ap, ◌∙◌, subst, arith, None, inl, inr, append_assoc}
+use Rattle.std.proofs.Common.{◌≡◌, ℕ, ◌≤◌, List, [], ◌∷◌, ◌++◌, map, refl, sym, ap, ◌∙◌, subst, arith, inl, inr, append_assoc}
 use Rattle.std.specs.Prelude.{⊤}
 use Rattle.std.proofs.lemmas.Bool.{cases_lt}
-use Rattle.cm_syntax.specs.declared.expr.Expr.TheVariants as expression
-use Rattle.cm_syntax.specs.declared.stmt.Slot.TheVariants as slot
-use Rattle.cm_syntax.specs.declared.stmt.Stmt.TheVariants as statement
-use Rattle.cm_syntax.specs.declared.stmt.Target.TheVariants as target
-use Rattle.cm_syntax.specs.Limit.{max_literal}
 use Rattle.cm_syntax.specs.Token.{Token, LocatedToken, IsName, Spells, Tokens}
 use Rattle.cm_syntax.specs.ParseTree.{Offset}
 use Rattle.cm_syntax.specs.ParseTree as grammar
-use Rattle.cm_syntax.specs.Yield.{Quantity, CountedToken, program_tokens, located_tokens}
+use Rattle.cm_syntax.specs.Yield.{Quantity, CountedToken, nothing, depth, operators, literal, words, program_tokens, located_tokens}
 use Rattle.cm_syntax.specs.Lowering.{lower_program}
 use Rattle.cm_syntax.specs.Refusal.{IsTooMuch, Refusal, IsRefused}
-use Rattle.cm_syntax.specs.Machine.{State, Next, goes, stops, step, item, start}
-use Rattle.cm_syntax.proofs.Laying.{Writable, AllWritable}
-use Rattle.cm_syntax.proofs.machine.Trace.{located-append}
-use Rattle.cm_syntax.proofs.machine.NumberCap.{BothRefused, both_refused}
+use Rattle.cm_syntax.specs.Limit.{max_literal, max_array_words}
+use Rattle.cm_syntax.specs.Machine.{State, goes, stops, step, start}
+use Rattle.cm_syntax.proofs.machine.TokenStep.{CountsNumber, number_counted, unfit_stops}
 use Rattle.cm_syntax.proofs.machine.Reached.{Reached, program_reached}
-use Rattle.cm_syntax.proofs.machine.Run.{beyond_much}
+use Rattle.cm_syntax.proofs.Laying.{Writable, AllWritable}
+use Rattle.cm_syntax.proofs.YieldLaws.{located-append}
 
 -- ---- names
 
@@ -47,37 +42,38 @@ tokens_named (Tokens.comment parts h more) = tokens_named more
 tokens_named (Tokens.token {token = t} {text = text} h more) = (spelled_named t text h.spelled, tokens_named more)
 tokens_named (Tokens.fault h) = (tt, tt)
 
--- ---- what the machine takes
-
--- a token that fits nowhere is taken in no state
-unfit_stops : (s : State) (at : Offset) → step s Token.unfit at ≡ stops
-unfit_stops (State.operand_name x n k) at = unfit_stops (k (expression.Scalar x) n) at
-unfit_stops (State.operators level n e k) at = unfit_stops (k e n) at
-unfit_stops (State.item_name x k) at = unfit_stops (k (item x slot.Scalar)) at
-unfit_stops (State.more_items before k) at = unfit_stops (k before) at
-unfit_stops (State.target_name x k) at = unfit_stops (k (target.Scalar x)) at
-unfit_stops (State.otherwise d test chosen k) at = unfit_stops (k (statement.If test chosen None)) at
-unfit_stops (State.parameter_name x k) at = unfit_stops (k (item x slot.Scalar)) at
-unfit_stops _ at = refl
-
--- a number is taken where not too much is counted at it
-small_number : (n : ℕ) (s : State) (at : Offset) (q : Quantity) (next : State) → step s (Token.number n) at ≡ goes q next → (IsTooMuch q → ⊥) → n ≤ max_literal
-small_number n s at q next e small = elim (cases_lt max_literal n) [
-  | inl more ↦ absurd (small (beyond_much q (subst (λ x. BothRefused x x) e (both_refused n n more more at s)).0))
-  | inr le ↦ le
-]
-
--- a token that is taken can be written
-taken_writable : (t : Token) (s : State) (at : Offset) (q : Quantity) (next : State) → step s t at ≡ goes q next → Named t → (IsTooMuch q → ⊥) → Writable t
-taken_writable (Token.keyword k) s at q next e named small = tt
-taken_writable (Token.sign found) s at q next e named small = tt
-taken_writable (Token.name bytes) s at q next e named small = named
-taken_writable (Token.number n) s at q next e named small = small_number n s at q next e small
-taken_writable Token.unfit s at q next e named small = let never : stops ≡ goes q next = sym (unfit_stops s at) ∙ e in absurd (cc)
-
 -- ---- no refused offset
 
-module _ (bytes : List ℕ) (source : grammar.Program) (read : Tokens 0 bytes (located_tokens (program_tokens source))) (sound : (refusal : Refusal) (at : ℕ) → IsRefused bytes refusal at → ⊥) where
+-- a number at which not too much is counted can be written
+small_written : (value : ℕ) (q : Quantity) → CountsNumber value q → (IsTooMuch q → ⊥) → value ≤ max_literal
+small_written value nothing counts small = absurd counts
+small_written value (depth d) counts small = absurd counts
+small_written value (operators k) counts small = absurd counts
+small_written value (literal size) counts small = elim (cases_lt max_literal value) [
+  | inl more ↦ absurd (small (omega (arith, counts)))
+  | inr le ↦ le
+]
+small_written value (words size) counts small = elim (cases_lt max_array_words value) [
+  | inl more ↦ absurd (small (inr (omega (arith, counts))))
+  | inr le ↦ omega arith
+]
+
+never_stops : (q : Quantity) (next : State) → stops ≡ goes q next → ⊥
+never_stops q next e = cc
+
+-- a token that the machine takes can be written
+token_written : (s next : State) (t : Token) (at : Offset) (q : Quantity) → step s t at ≡ goes q next → Named t → (IsTooMuch q → ⊥) → Writable t
+token_written s next (Token.keyword k) at q steps named small = tt
+token_written s next (Token.sign found) at q steps named small = tt
+token_written s next (Token.name bytes) at q steps named small = named
+token_written s next (Token.number value) at q steps named small = small_written value q (number_counted s value at q next steps) small
+token_written s next Token.unfit at q steps named small = absurd (never_stops q next (sym (unfit_stops s at) ∙ steps))
+
+-- no offset is refused
+abbrev Sound : List ℕ → Type 0
+Sound bytes = (refusal : Refusal) (at : ℕ) → IsRefused bytes refusal at → ⊥
+
+module _ (bytes : List ℕ) (source : grammar.Program) (read : Tokens 0 bytes (located_tokens (program_tokens source))) (sound : Sound bytes) where
   -- at no token is too much counted
   not_much_there : (before : List CountedToken) (t : CountedToken) (more : List CountedToken) → program_tokens source ≡ before ++ t ∷ more → IsTooMuch t.quantity → ⊥
   not_much_there before t more begins much =
@@ -98,10 +94,12 @@ module _ (bytes : List ℕ) (source : grammar.Program) (read : Tokens 0 bytes (l
       AllWritable (map (λ p. p.token) (located_tokens more))
   all_written s last before [] begins reached named = tt
   all_written s last before (t ∷ more) begins reached named = (
-    taken_writable t.located.token s t.located.at t.quantity reached.0 reached.1 named.0 (not_much_there before t more begins),
+    token_written s reached.0 t.located.token t.located.at t.quantity reached.1 named.0 (not_much_there before t more begins),
     all_written reached.0 last (before ++ t ∷ []) more (begins ∙ sym (append_assoc before (t ∷ []) more)) reached.2 named.1,
   )
 
-  -- the tokens of a source without a refused offset can be written
-  pub sound_written : AllWritable (map (λ p. p.token) (located_tokens (program_tokens source)))
-  sound_written = all_written start (State.functions_next (lower_program source)) [] (program_tokens source) refl (program_reached source) (tokens_named read)
+-- the tokens of a source without a refused offset can be written
+pub sound_written : (bytes : List ℕ) (source : grammar.Program) → Tokens 0 bytes (located_tokens (program_tokens source)) →
+    ((refusal : Refusal) (at : ℕ) → IsRefused bytes refusal at → ⊥) → AllWritable (map (λ p. p.token) (located_tokens (program_tokens source)))
+sound_written bytes source read sound =
+    all_written bytes source read sound start (State.functions_next (lower_program source)) [] (program_tokens source) refl (program_reached source) (tokens_named read)

@@ -5,6 +5,7 @@ pub mod ExpressionTrace
 pub mod StatementTrace
 pub mod ProgramTrace
 pub mod OneTree
+pub mod TokenStep
 pub mod NumberCap
 pub mod Written
 pub mod Wanted

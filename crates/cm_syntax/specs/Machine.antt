@@ -1,7 +1,8 @@
--- A machine that takes tokens one by one. It is no definition of the language, which the grammar is (`ParseTree.antt`,
--- `Yield.antt`, `Refusal.antt`): it is proved to agree with the grammar, and the reader's code is proved to agree with it.
--- A state is what is wanted next, and a continuation what is wanted then, behind the tree of what was read. Where it
--- takes one token more to see that a part has ended, the continuation takes this token.
+-- A machine that takes tokens one by one. It is no definition of the language: that is the grammar (`ParseTree.antt`,
+-- `Yield.antt`, `Refusal.antt`), with which the machine is proved to agree, so that the reader's code can be held to it
+-- token by token. A state is what is wanted next, and a continuation what is wanted then, behind the tree of what was
+-- read. Where it takes one token more to see that a part has ended, the continuation takes this token. Some states, as
+-- `simple` and `function_next`, are a nonterminal of the code, to which no token leads.
 use Rattle.std.specs.Prelude.{ℕ, ◌+◌, ◌-◌, pos, Bool, true, false, not, ◌&&◌, nat_lt, nat_le, if◌then◌else◌, List, [], ◌∷◌, ◌++◌, length, Option, None, Some}
 use Rattle.cm_syntax.specs.declared.name.Name.{Name}
 use Rattle.cm_syntax.specs.declared.expr.Op.{Op}
@@ -28,7 +29,8 @@ use Rattle.cm_syntax.specs.Token.{Token, LocatedToken}
 use Rattle.cm_syntax.specs.ParseTree.{Mark, Offset, level_of}
 use Rattle.cm_syntax.specs.Yield.{Quantity}
 use Rattle.cm_syntax.specs.Limit.{max_source_bytes, max_depth, max_open_brackets, max_operators, max_literal, max_array_words}
-use Rattle.cm_syntax.specs.Refusal.{Refusal, is_opening, is_closing}
+use Rattle.cm_syntax.specs.Grammar.{IsSourceOf}
+use Rattle.cm_syntax.specs.Refusal.{Refusal, IsAnswer, HasNoRefusal, is_opening, is_closing}
 
 -- ---- tokens
 
@@ -211,6 +213,7 @@ index k = value (λ e. State.sign_next sign.BracketClose (k e))
 abbrev pub call_of : Mark → (Call Name → State) → State
 call_of f k = State.first_argument (λ arguments. k (record { function = f; arguments = arguments }))
 
+-- a call
 abbrev pub call : (Call Name → State) → State
 call k = State.name_next (λ f. State.sign_next sign.ParenOpen (call_of f k))
 
@@ -483,6 +486,7 @@ abbrev pub capped_token : Token → Token
 capped_token (Token.number n) = Token.number (if nat_lt max_literal n then max_literal + 1 else n)
 capped_token token = token
 
+-- a token with its number capped
 abbrev pub capped : LocatedToken → LocatedToken
 capped t = record { token = capped_token t.token; at = t.at }
 
@@ -516,3 +520,8 @@ module _ (length : ℕ) where
 -- the answer to a text by its tokens and its length
 abbrev pub text_answer : List LocatedToken → (length : ℕ) → Answer
 text_answer tokens length = run length start (nested_tokens 0 0 (readable tokens))
+
+-- what the answer to a text means: its functions, where no offset is refused, or the refused offset that is answered
+abbrev pub IsAnswerTo : (bytes : List ℕ) → Answer → Type 0
+IsAnswerTo bytes (accepted functions) = IsSourceOf bytes (record { functions = functions; length = length bytes }) × HasNoRefusal bytes
+IsAnswerTo bytes (refused refusal at) = IsAnswer bytes refusal at

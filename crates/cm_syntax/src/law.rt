@@ -20,6 +20,7 @@ ghost use Rattle.cm_syntax.specs.ParseTree as grammar;
 ghost use Rattle.cm_syntax.specs.Yield.{CountedToken, program_tokens, located_tokens};
 ghost use Rattle.cm_syntax.specs.Grammar.{IsExpression, IsPrimary, IsArgument, IsCall, IsItem, AreItems, IsDeclaration, IsTarget, IsSimple, IsPlain, AreStatements, IsStatement, IsBlock, IsParameter, AreParameters, IsFunction, Parses, IsSourceOf};
 ghost use Rattle.cm_syntax.specs.Refusal.{Syntax, Size, Refusal, IsAnswer, HasNoRefusal, IsSoundTree};
+ghost use Rattle.cm_syntax.specs.Machine.{text_answer, IsAnswerTo};
 ghost use Rattle.cm_syntax.specs.Canonical.{canonical};
 ghost use Rattle.cm_syntax.specs.Offset.{without_offsets};
 ghost use Rattle.std.specs.List.{range_with_len};
@@ -96,6 +97,12 @@ pub fn every_text_is_answered()
         ⊎ ((refusal : Refusal) × (at : ℕ) × IsAnswer bytes refusal at) }
     ensures one { (bytes : List ℕ) (refusal : Refusal) (at : ℕ) → HasNoRefusal bytes
         → IsAnswer bytes refusal at → ⊥ }
+{}
+
+/// The answer that the machine gives to the tokens of a text is the text's answer.
+pub fn answers_of_machine()
+    ensures { (bytes : List ℕ) (tokens : List LocatedToken) → Tokens 0 bytes tokens
+        → IsAnswerTo bytes (text_answer tokens (length bytes)) }
 {}
 
 /// What a mention stands for has its slot among the slots of its function, and the slot is of its kind.
@@ -283,9 +290,19 @@ pub fn refused_sources()
     ensures literal { IsAnswer (codes "int main() { return 2147483648; }") Refusal.size 20 }
     ensures no_words { IsAnswer (codes "int main() { int a[0]") Refusal.size 19 }
     ensures many_words { IsAnswer (codes "int main() { int a[16385]") Refusal.size 19 }
-    ensures parentheses { Size (codes "int main() { return " ++ replicate 65 40) 84 }
-    ensures operators { Size (codes "int main() { return " ++ replicate 65 126) 84 }
-    ensures loops { Size (codes "int main() { " ++ loops 64) 525 }
+    ensures parentheses { IsAnswer (codes "int main() { return " ++ replicate 65 40) Refusal.size 84 }
+    ensures operators { IsAnswer (codes "int main() { return " ++ replicate 65 126) Refusal.size 84 }
+    ensures loops { IsAnswer (codes "int main() { " ++ loops 64) Refusal.size 525 }
+    ensures less_loops { IsAnswer (codes "int main() { " ++ loops 63) Refusal.syntax_ 518 }
+    ensures no_value { IsAnswer (codes "int main() { x = ; }") Refusal.syntax_ 17 }
+    ensures second_else { IsAnswer (codes "int main() { if (1) ; else ; else ; }") Refusal.syntax_ 29 }
+    ensures element_spawn { IsAnswer (codes "int main() { a[1] = spawn f(); }") Refusal.syntax_ 20 }
+    ensures for_spawn { IsAnswer (codes "int main() { for (x = spawn f(); ; ) ; }") Refusal.syntax_ 22 }
+    ensures reference { IsAnswer (codes "int main() { f(&x + 1); }") Refusal.syntax_ 18 }
+    ensures trailing_comma { IsAnswer (codes "int main() { f(x,); }") Refusal.syntax_ 17 }
+    ensures declared_body { IsAnswer (codes "int main() { if (1) int x; }") Refusal.syntax_ 20 }
+    ensures behind { IsAnswer (codes "int main() { } ;") Refusal.syntax_ 15 }
+    ensures first_refused { IsAnswer (codes "int main() { return 2147483648 1; }") Refusal.size 20 }
     ensures too_long { (bytes : List ℕ) → max_source_bytes < length bytes → Size bytes max_source_bytes }
 {}
 

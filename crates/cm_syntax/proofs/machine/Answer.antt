@@ -1,29 +1,22 @@
 -- The answer of the machine to a text is the answer of the definitions, so each text has one.
 use Rattle.std.proofs.Common.{◌≡◌, ℕ, ◌+◌, ◌<◌, ◌≤◌, Bool, true, false, List, [], ◌∷◌, ◌++◌, length, refl, sym, ap, ◌∙◌, subst, arith, Option, None, Some, ◌⊎◌, inl, inr, append_assoc, append-nil, length-append, if◌then◌else◌}
 use Rattle.std.specs.Prelude.{nat_lt}
-use Rattle.std.proofs.lemmas.Bool.{cases_lt, ltb-true, ltb-false, lt-ltb, true≢false}
+use Rattle.std.proofs.lemmas.Bool.{cases_lt, ltb-true, ltb-false}
 use Rattle.cm_syntax.specs.declared.name.Name.{Name}
 use Rattle.cm_syntax.specs.declared.stmt.Function.{Function}
-use Rattle.cm_syntax.specs.declared.stmt.Tree.{Tree}
 use Rattle.cm_syntax.specs.Limit.{max_source_bytes}
 use Rattle.cm_syntax.specs.Token.{LocatedToken, Tokens}
-use Rattle.cm_syntax.specs.Yield.{CountedToken, program_tokens, located_tokens}
+use Rattle.cm_syntax.specs.Yield.{CountedToken, located_tokens}
 use Rattle.cm_syntax.specs.Lowering.{lower_program}
-use Rattle.cm_syntax.specs.Grammar.{Parses, IsSourceOf}
-use Rattle.cm_syntax.specs.Refusal.{IsProgram, BeginsProgram, StopsAtToken, StopsAtEnd, Exceeds, IsTooMuch, IsTooNested, Syntax, Size, Refusal, IsRefused, IsAnswer}
-use Rattle.cm_syntax.specs.Machine.{State, goes, stops, step, finish, start, readable, Answer, accepted, refused, end_answer, text_answer}
-use Rattle.cm_syntax.proofs.TokenLaws.{shorter_front, Tokens-one}
-use Rattle.cm_syntax.proofs.RefusalLaws.{token_in_front, stops_before, exceeds_begins, not_later, Syntax-one}
-use Rattle.cm_syntax.proofs.OffsetLaws.{Ascend, ascend_to, tokens_ascend, offset_below, offset_order}
-use Rattle.cm_syntax.proofs.machine.Trace.{regroup, located-append, length-located}
-use Rattle.cm_syntax.proofs.machine.Reached.{Reached, reached_on, determined, same_counts, program_reached, begins_program, no_further, parses, unfinished}
-use Rattle.cm_syntax.proofs.machine.Run.{AllWithin, within_at, Front, Outcome, outcome}
-
--- what the answer to a text means: its functions, where no offset is refused, or the refused offset that is answered
-abbrev pub IsAnswerTo : (bytes : List ℕ) → Answer → Type 0
-IsAnswerTo bytes (accepted functions) =
-    IsSourceOf bytes (record { functions = functions; length = length bytes }) × ((refusal : Refusal) (at : ℕ) → IsRefused bytes refusal at → ⊥)
-IsAnswerTo bytes (refused refusal at) = IsAnswer bytes refusal at
+use Rattle.cm_syntax.specs.Grammar.{Parses}
+use Rattle.cm_syntax.specs.Refusal.{StopsAtToken, StopsAtEnd, Exceeds, IsTooMuch, IsTooNested, Size, Refusal, IsRefused, IsAnswer}
+use Rattle.cm_syntax.specs.Machine.{State, goes, stops, step, finish, start, readable, Answer, IsAnswerTo, accepted, refused, end_answer, text_answer}
+use Rattle.cm_syntax.proofs.TokenLaws.{Tokens-one}
+use Rattle.cm_syntax.proofs.RefusalLaws.{token_in_front, stops_before, Syntax-one}
+use Rattle.cm_syntax.proofs.YieldLaws.{regroup, located-append, length-located}
+use Rattle.cm_syntax.proofs.OffsetLaws.{Ascend, ascend_to, tokens_ascend, offset_below, offset_order, exceeds_begins, not_later}
+use Rattle.cm_syntax.proofs.machine.Reached.{Reached, reached_on, same_front, same_counts, program_reached, begins_program, no_further, parses, is_no_program}
+use Rattle.cm_syntax.proofs.machine.Run.{AllWithin, within_at, Outcome, outcome}
 
 -- the state between tokens that are taken
 reached_parts : (a b : List CountedToken) (s last : State) → Reached s (a ++ b) last → (middle : State) × Reached s a middle × Reached middle b last
@@ -39,7 +32,7 @@ module _ (bytes : List ℕ) (front : List CountedToken) (behind : List LocatedTo
       let all = subst (λ tokens. Reached start tokens end) (h.begins ∙ sym (append_assoc h.before (h.token ∷ []) h.more)) (program_reached h.source) in
       let parts = reached_parts (h.before ++ h.token ∷ []) h.more start end all in
       let same : located_tokens front ≡ located_tokens (h.before ++ h.token ∷ []) ++ found.0 = found.1 ∙ ap (λ x. x ++ found.0) (sym (located-append h.before (h.token ∷ []))) in
-      let counted = determined (h.before ++ h.token ∷ []) front found.0 start parts.0 last parts.1 reached same in
+      let counted = same_front (h.before ++ h.token ∷ []) front found.0 start parts.0 last parts.1 reached same in
       within_at [] h.before h.token counted.0 (subst (AllWithin []) (counted.1 ∙ append_assoc h.before (h.token ∷ []) counted.0) within) h.much
 
   -- syntax isn't refused at one
@@ -206,7 +199,7 @@ module _ (bytes : List ℕ) (front : List CountedToken) (after : List LocatedTok
     unfinished_answer e = record { refused = inr here; least = least; size_first = λ e s. no_limit (length bytes) s }
       where
         here : StopsAtEnd bytes (length bytes)
-        here = record { tokens = located_tokens front; read = all_read; offset = refl; so_far = begins_program front last reached; unfinished = unfinished front last reached e }
+        here = record { tokens = located_tokens front; read = all_read; offset = refl; so_far = begins_program front last reached; unfinished = is_no_program front last reached e }
 
         least : (other : Refusal) (offset : ℕ) → IsRefused bytes other offset → length bytes ≤ offset
         least Refusal.syntax_ offset h = omega (arith, Syntax-one bytes (length bytes) offset (inr here) h)

@@ -1,7 +1,7 @@
 -- A token that is taken in a state of an expression, with what may follow the next state, may follow the state.
 use Rattle.std.proofs.Common.{◌≡◌, ℕ, ◌+◌, ◌<◌, ◌≤◌, Bool, true, false, List, [], ◌∷◌, ◌++◌, refl, sym, ap, ◌∙◌, subst, arith, Option, None, Some, pos}
 use Rattle.std.specs.Prelude.{nat_lt, if◌then◌else◌}
-use Rattle.std.proofs.lemmas.Bool.{true≢false, false≢true, ltb-false, ltb-true}
+use Rattle.std.proofs.lemmas.Bool.{ltb-false, ltb-true}
 use Rattle.cm_syntax.specs.declared.name.Name.{Name}
 use Rattle.cm_syntax.specs.declared.expr.Op.{Op}
 use Rattle.cm_syntax.specs.declared.expr.Op.TheVariants as op
@@ -9,20 +9,18 @@ use Rattle.cm_syntax.specs.declared.expr.Expr.{Expr}
 use Rattle.cm_syntax.specs.declared.expr.Expr.TheVariants as expression
 use Rattle.cm_syntax.specs.declared.expr.Arg.{Arg}
 use Rattle.cm_syntax.specs.declared.expr.Arg.TheVariants as argument
-use Rattle.cm_syntax.specs.declared.expr.Call.{Call}
 use Rattle.cm_syntax.specs.declared.token.Keyword.{Keyword}
 use Rattle.cm_syntax.specs.declared.token.Keyword.TheVariants as keyword
 use Rattle.cm_syntax.specs.declared.token.Sign.{Sign}
 use Rattle.cm_syntax.specs.declared.token.Sign.TheVariants as sign
-use Rattle.cm_syntax.specs.Text.{is_same, keyword_text, sign_text}
 use Rattle.cm_syntax.specs.Token.{Token, LocatedToken, token_at}
 use Rattle.cm_syntax.specs.ParseTree.{Mark, Offset, is_unary, level_of, Expression, Arguments, Argument, AnyExpression}
 use Rattle.cm_syntax.specs.ParseTree as grammar
 use Rattle.cm_syntax.specs.Yield.{Quantity, sign_of}
-use Rattle.cm_syntax.specs.Machine.{State, Next, goes, stops, on, step, is_sign, is_word, whole, value, operator_of, operator_step, operand_step, value_step, argument_step, call, call_of, name_step}
+use Rattle.cm_syntax.specs.Machine.{State, Next, goes, stops, step, is_sign, is_word, whole, value, operator_step, operand_step, value_step, argument_step, call_of, name_step}
 use Rattle.cm_syntax.proofs.machine.Front.{sign_token, word_token}
 use Rattle.cm_syntax.proofs.machine.ExpressionTrace.{level_bounds, unary_level}
-use Rattle.cm_syntax.proofs.machine.Written.{sign_then, name_then, expression_then, argument_then, any_then, optional_then}
+use Rattle.cm_syntax.proofs.machine.Written.{sign_then, name_then, expression_then, argument_then, any_then}
 use Rattle.cm_syntax.proofs.machine.Wanted.{Begins, begins, AtLeast, at_least_then, Tail, tail_then, Closed, closed_then, FirstArguments, first_arguments_then, NextArguments, next_arguments_then, MoreArguments, more_arguments_then, OperandName, operand_name_then, Continues}
 
 -- what may follow behind a token by what the token does
@@ -89,11 +87,11 @@ record Attached (level : ℕ) {first : ℕ} (e : Expression first) (tail : Tail 
   made : Expression own
   same : (rest : List LocatedToken) → expression_then made rest ≡ expression_then e (tail_then tail rest)
 
-attached : {level : ℕ} (tail : Tail level) {own : ℕ} (e : Expression own) → level ≤ own → Attached level e tail
-attached Tail.end e le = record { own = _; tight = le; made = e; same = λ rest. refl }
-attached {level} (Tail.more o binary low at right loose t) e le =
+attach : {level : ℕ} (tail : Tail level) {own : ℕ} (e : Expression own) → level ≤ own → Attached level e tail
+attach Tail.end e le = record { own = _; tight = le; made = e; same = λ rest. refl }
+attach {level} (Tail.more o binary low at right loose t) e le =
     let one = insert o binary at right loose level e le low in
-    let all = attached t one.made one.tight in
+    let all = attach t one.made one.tight in
     record { own = all.own; tight = all.tight; made = all.made; same = λ rest. all.same rest ∙ one.same (tail_then t rest) }
 
 -- ---- where an expression is wanted
@@ -108,7 +106,7 @@ BehindValue k rest = (e : Expr Name) × Continues (k e) rest
 
 whole_begins : (level n : ℕ) (k : Expr Name → ℕ → State) (w : List LocatedToken) → level ≤ 11 → Continues (whole level n k) w → Begins (at_least_then {level = level}) (Behind k) w
 whole_begins level n k w low (begins (AtLeast.at_least tight e) _ (tree, m, begins tail rest h)) =
-    let all = attached tail e (omega (arith, tight)) in
+    let all = attach tail e (omega (arith, tight)) in
     subst (Begins (at_least_then {level = level}) (Behind k)) (all.same rest) (begins (AtLeast.at_least all.tight all.made) rest h)
 
 pub value_begins : (k : Expr Name → State) (w : List LocatedToken) → Continues (value k) w → Begins any_then (BehindValue k) w

@@ -1,18 +1,15 @@
 -- The machine answers the same whatever a number is that is beyond each limit.
-use Rattle.std.proofs.Common.{◌≡◌, ℕ, ◌+◌, ◌-◌, ◌<◌, Bool, true, false, ◌&&◌, not, None, List, [], ◌∷◌, refl, sym, ap, ◌∙◌, arith}
-use Rattle.std.specs.Prelude.{⊤, nat_le, nat_lt, map, if◌then◌else◌}
+use Rattle.std.proofs.Common.{◌≡◌, ℕ, ◌+◌, ◌-◌, ◌<◌, Bool, true, false, ◌&&◌, List, [], ◌∷◌, refl, ap, ◌∙◌, arith}
+use Rattle.std.specs.Prelude.{⊤, nat_lt, map, if◌then◌else◌}
 use Rattle.std.proofs.lemmas.Bool.{ltb-true}
 use Rattle.std.proofs.lemmas.Bool.Decides.{nat_tests}
-use Rattle.cm_syntax.specs.declared.expr.Expr.TheVariants as expression
-use Rattle.cm_syntax.specs.declared.stmt.Slot.TheVariants as slot
-use Rattle.cm_syntax.specs.declared.stmt.Stmt.TheVariants as statement
-use Rattle.cm_syntax.specs.declared.stmt.Target.TheVariants as target
+use Rattle.cm_syntax.proofs.machine.TokenStep.{CountsNumber, AlikeNumbers, alike_numbers}
 use Rattle.cm_syntax.specs.Limit.{max_literal, max_source_bytes, max_open_brackets}
 use Rattle.cm_syntax.specs.Token.{Token, LocatedToken, token_at}
 use Rattle.cm_syntax.specs.ParseTree.{Offset}
 use Rattle.cm_syntax.specs.Yield.{Quantity}
 use Rattle.cm_syntax.specs.Refusal.{is_opening, is_closing}
-use Rattle.cm_syntax.specs.Machine.{State, Next, goes, stops, step, item, is_within, NestedToken, Answer, token_answer, run, nested_tokens, readable, capped, capped_token, start, text_answer}
+use Rattle.cm_syntax.specs.Machine.{State, Next, goes, stops, step, is_within, Answer, token_answer, run, nested_tokens, readable, capped, capped_token, start, text_answer}
 
 -- both aren't wanted, or what is counted at both is beyond its limit
 abbrev pub BothRefused : Next → Next → Type 0
@@ -20,50 +17,25 @@ BothRefused stops stops = ⊤
 BothRefused (goes q next) (goes r other) = (is_within q ≡ false) × (is_within r ≡ false)
 BothRefused _ _ = ⊥
 
--- what is counted at a number that is beyond each limit
-pub great_literal : (n : ℕ) → max_literal < n → is_within (Quantity.literal n) ≡ false
+great_literal : (n : ℕ) → max_literal < n → is_within (Quantity.literal n) ≡ false
 great_literal n lt = grind (arith, nat_tests)
 
-pub great_words : (n : ℕ) → max_literal < n → is_within (Quantity.words n) ≡ false
+great_words : (n : ℕ) → max_literal < n → is_within (Quantity.words n) ≡ false
 great_words n lt = grind (arith, nat_tests)
 
-module _ (n m : ℕ) (great : max_literal < n) (also : max_literal < m) (at : Offset) where
-  literals : (is_within (Quantity.literal n) ≡ false) × (is_within (Quantity.literal m) ≡ false)
-  literals = (great_literal n great, great_literal m also)
+-- what is counted at a number that is beyond each limit
+great_number : (n : ℕ) (q : Quantity) → max_literal < n → CountsNumber n q → is_within q ≡ false
+great_number n Quantity.nothing lt h = absurd h
+great_number n (Quantity.depth d) lt h = absurd h
+great_number n (Quantity.operators k) lt h = absurd h
+great_number n (Quantity.literal value) lt h = ap (λ v. is_within (Quantity.literal v)) h ∙ great_literal n lt
+great_number n (Quantity.words words) lt h = ap (λ v. is_within (Quantity.words v)) h ∙ great_words n lt
 
-  pub both_refused : (s : State) → BothRefused (step s (Token.number n) at) (step s (Token.number m) at)
-  both_refused (State.sign_next s next) = tt
-  both_refused (State.word_next w next) = tt
-  both_refused (State.name_next k) = tt
-  both_refused (State.operand before k) = literals
-  both_refused (State.operand_name x before k) = both_refused (k (expression.Scalar x) before)
-  both_refused (State.operators level before e k) = both_refused (k e before)
-  both_refused (State.first_argument k) = literals
-  both_refused (State.next_argument before k) = literals
-  both_refused (State.more_arguments before k) = tt
-  both_refused (State.optional_value k) = literals
-  both_refused (State.item_name x k) = both_refused (k (item x slot.Scalar))
-  both_refused (State.array_words k) = (great_words n great, great_words m also)
-  both_refused (State.more_items before k) = both_refused (k before)
-  both_refused (State.target_next k) = tt
-  both_refused (State.target_name x k) = both_refused (k (target.Scalar x))
-  both_refused (State.writing written k) = tt
-  both_refused (State.simple first k) = tt
-  both_refused (State.simple_name x k) = tt
-  both_refused (State.first_part k) = tt
-  both_refused (State.last_part k) = tt
-  both_refused (State.plain d inner k) = tt
-  both_refused (State.plain_name x k) = tt
-  both_refused (State.destination x k) = literals
-  both_refused (State.otherwise d test chosen k) = both_refused (k (statement.If test chosen None))
-  both_refused (State.statements d before k) = tt
-  both_refused (State.first_parameter k) = tt
-  both_refused (State.parameter_declarator k) = tt
-  both_refused (State.parameter_name x k) = both_refused (k (item x slot.Scalar))
-  both_refused (State.more_parameters before k) = tt
-  both_refused (State.function_next k) = tt
-  both_refused (State.return_type k) = tt
-  both_refused (State.functions_next before) = tt
+both_refused : (n m : ℕ) → max_literal < n → max_literal < m → (a b : Next) → AlikeNumbers n m a b → BothRefused a b
+both_refused n m great also stops stops h = tt
+both_refused n m great also stops (goes r other) h = absurd h
+both_refused n m great also (goes q next) stops h = absurd h
+both_refused n m great also (goes q next) (goes r other) h = (great_number n q great h.0, great_number m r also h.1)
 
 -- the answer is the same where both are refused
 same_answer : (length : ℕ) (a b : Next) (too_nested : Bool) (at : Offset) (more : State → Answer) → BothRefused a b → token_answer length a too_nested at more ≡ token_answer length b too_nested at more
@@ -78,7 +50,7 @@ number_answer length s n at too_nested more = by_limit (nat_lt max_literal n) re
   where
     by_limit : (b : Bool) → nat_lt max_literal n ≡ b →
         token_answer length (step s (Token.number (if b then max_literal + 1 else n)) at) too_nested at more ≡ token_answer length (step s (Token.number n) at) too_nested at more
-    by_limit true b = same_answer length _ _ too_nested at more (both_refused (max_literal + 1) n (omega arith) (ltb-true max_literal n b) at s)
+    by_limit true b = same_answer length _ _ too_nested at more (both_refused (max_literal + 1) n (omega arith) (ltb-true max_literal n b) _ _ (alike_numbers (max_literal + 1) n at s))
     by_limit false b = refl
 
 -- the answer of the machine is the same where numbers are capped

@@ -10,7 +10,8 @@ use Rattle.cm_syntax.specs.Lowering.{lower_program}
 use Rattle.cm_syntax.specs.Grammar.{Parses, IsSourceOf}
 use Rattle.cm_syntax.specs.Machine.{State, Next, goes, stops, step, some_functions, finish, start}
 use Rattle.cm_syntax.proofs.TokenLaws.{Tokens-one}
-use Rattle.cm_syntax.proofs.machine.Trace.{Trace, took, stuck, over, next_trace, trace, taken, taken-append, regroup}
+use Rattle.cm_syntax.proofs.YieldLaws.{regroup}
+use Rattle.cm_syntax.proofs.machine.Trace.{Trace, took, stuck, over, next_trace, trace, taken, taken-append}
 use Rattle.cm_syntax.proofs.machine.ProgramTrace.{program_leads}
 
 -- The machine takes the tokens of a program with their counts, and comes behind its functions.

@@ -1,6 +1,5 @@
 -- A token that is taken in a state of a statement, with what may follow the next state, may follow the state.
-use Rattle.std.proofs.Common.{◌≡◌, ℕ, ◌+◌, Bool, true, false, List, [], ◌∷◌, ◌++◌, refl, ap, subst, Option, None, Some}
-use Rattle.std.specs.Prelude.{if◌then◌else◌}
+use Rattle.std.proofs.Common.{◌≡◌, ℕ, ◌+◌, Bool, true, false, List, [], ◌∷◌, ◌++◌, refl, ap, subst, None, Some}
 use Rattle.std.proofs.lemmas.Bool.{false≢true}
 use Rattle.cm_syntax.specs.declared.name.Name.{Name}
 use Rattle.cm_syntax.specs.declared.expr.Expr.{Expr}
@@ -17,9 +16,9 @@ use Rattle.cm_syntax.specs.Yield.{Quantity}
 use Rattle.cm_syntax.specs.Machine.{State, Next, step, is_sign, is_word, value, value_step, call, declaration, simple_step, with_semicolon, body, for_parts, split_parts, spawned, plain_step, statement_step}
 use Rattle.cm_syntax.specs.Machine
 use Rattle.cm_syntax.proofs.machine.Written.{sign_then, word_then, name_then, call_then, any_then, optional_then, declaration_then, simple_then, first_part_then, last_part_then, plain_then}
-use Rattle.cm_syntax.proofs.machine.Wanted.{Begins, begins, Closed, closed_then, TargetName, Writing, SimpleName, simple_name_then, AnyPlain, any_plain_then, Destination, destination_then, PlainName, plain_name_then, Otherwise, otherwise_then, Block, block_then, Continues}
-use Rattle.cm_syntax.proofs.machine.ExpressionTakes.{Enters, by_either, by_sign, by_word, BehindValue, value_begins, closed_begins, value_takes}
-use Rattle.cm_syntax.proofs.machine.StatementTakes.{BehindStatement, BehindCall, named_call, named_call_same, named_simple, named_simple_same, simple_takes, simple_name_takes, declared}
+use Rattle.cm_syntax.proofs.machine.Wanted.{Begins, begins, Closed, closed_then, simple_name_then, AnyPlain, any_plain_then, Destination, destination_then, PlainName, plain_name_then, Otherwise, otherwise_then, Block, block_then, Continues}
+use Rattle.cm_syntax.proofs.machine.ExpressionTakes.{Enters, by_sign, by_word, BehindValue, value_begins, closed_begins, value_takes}
+use Rattle.cm_syntax.proofs.machine.StatementTakes.{BehindStatement, BehindCall, named_call, named_call_same, named_simple, named_simple_same, simple_takes, simple_name_takes, declaration_begins}
 
 -- ---- an `else` belongs to the nearest `if`
 
@@ -212,7 +211,7 @@ pub statements_take : (token : Token) (at d : ℕ) (before : List (Stmt Name)) (
 statements_take token at d before k w h =
     by_sign sign.BraceClose token _ _ w (λ t. Continues (State.statements d before k) (token_at t at ∷ w)) (λ h. begins (Block.block Statements.none at) w (before, at, h))
     (λ h. by_word keyword.Int token _ _ w (λ t. Continues (State.statements d before k) (token_at t at ∷ w))
-    (λ h. by_declaration (word_then keyword.Int at w) (declared at (with_semicolon (λ s. State.statements d (before ++ s ∷ []) k)) w h))
+    (λ h. by_declaration (word_then keyword.Int at w) (declaration_begins at (with_semicolon (λ s. State.statements d (before ++ s ∷ []) k)) w h))
     (λ h. by_plain (token_at token at ∷ w) (plain_takes token at d (d + 1) (λ s. State.statements d (before ++ s ∷ []) k) w h)) h) h
   where
     by_declaration : (w : List LocatedToken) → Begins declaration_then (BehindStatement (with_semicolon (λ s. State.statements d (before ++ s ∷ []) k))) w → Begins block_then (BehindBlock k) w

@@ -1,6 +1,6 @@
 -- Tokens that the machine takes are the first ones of a program, with the counts of each program that they begin; where
 -- it stops at a token none begins with this token as well; and where the tokens may end they are a program.
-use Rattle.std.proofs.Common.{◌≡◌, ℕ, List, [], ◌∷◌, ◌++◌, refl, sym, ap, ◌∙◌, subst, Option, None, Some, append_assoc, append-nil}
+use Rattle.std.proofs.Common.{◌≡◌, List, [], ◌∷◌, ◌++◌, refl, sym, ap, ◌∙◌, subst, Option, None, Some, append_assoc, append-nil}
 use Rattle.cm_syntax.specs.declared.name.Name.{Name}
 use Rattle.cm_syntax.specs.declared.stmt.Function.{Function}
 use Rattle.cm_syntax.specs.Token.{LocatedToken}
@@ -10,10 +10,10 @@ use Rattle.cm_syntax.specs.Lowering.{lower_program}
 use Rattle.cm_syntax.specs.Grammar.{Parses}
 use Rattle.cm_syntax.specs.Refusal.{IsProgram, BeginsProgram}
 use Rattle.cm_syntax.specs.Machine.{State, Next, goes, stops, step, finish, start}
-use Rattle.cm_syntax.proofs.machine.Trace.{Trace, took, stuck, over, next_trace, trace, taken}
+use Rattle.cm_syntax.proofs.machine.Trace.{took, over, next_trace, trace, taken}
 use Rattle.cm_syntax.proofs.machine.OneTree.{program_traced, some_program}
 use Rattle.cm_syntax.proofs.machine.Written.{program_same}
-use Rattle.cm_syntax.proofs.machine.Wanted.{Functions, Continues, inhabited}
+use Rattle.cm_syntax.proofs.machine.Wanted.{Functions, Continues, can_go_on}
 use Rattle.cm_syntax.proofs.machine.ExpressionTakes.{Enters}
 use Rattle.cm_syntax.proofs.machine.Takes.{takes, Ends, finishes}
 
@@ -47,15 +47,15 @@ joined_fronts : {u t : CountedToken} {all both : List CountedToken} → u ≡ t 
 joined_fronts e j = λ i. e i ∷ j i
 
 -- tokens that begin with some that are taken begin with their counts
-pub determined : (before all : List CountedToken) (more : List LocatedToken) (s last final : State) → Reached s before last → Reached s all final →
+pub same_front : (before all : List CountedToken) (more : List LocatedToken) (s last final : State) → Reached s before last → Reached s all final →
     located_tokens all ≡ located_tokens before ++ more → (rest : List CountedToken) × (all ≡ before ++ rest) × (located_tokens rest ≡ more) × Reached last rest final
-determined [] all more s last final r a e = (all, refl, e, subst (λ x. Reached x all final) r a)
-determined (t ∷ before) [] more s last final r a e = absurd (cc)
-determined (t ∷ before) (u ∷ all) more s last final r a e =
+same_front [] all more s last final r a e = (all, refl, e, subst (λ x. Reached x all final) r a)
+same_front (t ∷ before) [] more s last final r a e = absurd (cc)
+same_front (t ∷ before) (u ∷ all) more s last final r a e =
     let heads : u.located ≡ t.located = cc in
     let tails : located_tokens all ≡ located_tokens before ++ more = cc in
     let same = same_step s u t a.0 r.0 heads a.1 r.1 in
-    let found = determined before all more r.0 last final r.2 (subst (λ x. Reached x all final) same.1 a.2) tails in
+    let found = same_front before all more r.0 last final r.2 (subst (λ x. Reached x all final) same.1 a.2) tails in
     (found.0, joined_fronts {both = before ++ found.0} same.0 found.1, found.2, found.3)
 
 -- ---- each program
@@ -79,7 +79,7 @@ program_reached p = reached_traced (program_tokens p) start (State.functions_nex
 -- where a program begins with tokens that are taken, it has their counts
 pub same_counts : (p : grammar.Program) (before : List CountedToken) (more : List LocatedToken) (last : State) → Reached start before last → located_tokens (program_tokens p) ≡ located_tokens before ++ more →
     (rest : List CountedToken) × (program_tokens p ≡ before ++ rest) × (located_tokens rest ≡ more) × Reached last rest (State.functions_next (lower_program p))
-same_counts p before more last r e = determined before (program_tokens p) more start last (State.functions_next (lower_program p)) r (program_reached p) e
+same_counts p before more last r e = same_front before (program_tokens p) more start last (State.functions_next (lower_program p)) r (program_reached p) e
 
 -- no program begins with tokens that are taken and one at which the machine stops
 pub no_further : (before : List CountedToken) (t : LocatedToken) (last : State) → Reached start before last → step last t.token t.at ≡ stops → BeginsProgram (located_tokens before ++ t ∷ []) → ⊥
@@ -108,7 +108,7 @@ program_follows w (Functions.some p, can, same) = (p, sym (same ∙ (program_sam
 
 -- tokens that are taken begin a program
 pub begins_program : (before : List CountedToken) (last : State) → Reached start before last → BeginsProgram (located_tokens before)
-begins_program before last r = let more = inhabited last in (more.0, program_follows (located_tokens before ++ more.0) (follows before start last more.0 r more.1))
+begins_program before last r = let more = can_go_on last in (more.0, program_follows (located_tokens before ++ more.0) (follows before start last more.0 r more.1))
 
 -- ---- the end
 
@@ -137,5 +137,5 @@ module _ (before : List CountedToken) (last : State) (r : Reached start before l
           let trees : lower_program p ≡ functions = cc in (p, same, trees)
 
   -- where it may not, they are none
-  pub unfinished : finish last ≡ None → IsProgram (located_tokens before) → ⊥
-  unfinished e (p, same) = let none : None ≡ Some (lower_program p) = sym e ∙ at_end p same in absurd (cc)
+  pub is_no_program : finish last ≡ None → IsProgram (located_tokens before) → ⊥
+  is_no_program e (p, same) = let none : None ≡ Some (lower_program p) = sym e ∙ at_end p same in absurd (cc)

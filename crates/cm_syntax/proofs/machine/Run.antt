@@ -1,5 +1,5 @@
 -- What the answer of the machine says of the tokens that it takes.
-use Rattle.std.proofs.Common.{◌≡◌, ℕ, suc, ◌+◌, ◌<◌, ◌≤◌, Bool, true, false, not, ◌&&◌, List, [], ◌∷◌, ◌++◌, length, refl, sym, ap, ◌∙◌, subst, arith, Option, None, Some, ◌⊎◌, inl, inr, append_assoc, append-nil, if◌then◌else◌, cond}
+use Rattle.std.proofs.Common.{◌≡◌, ℕ, ◌+◌, ◌<◌, Bool, true, false, not, ◌&&◌, List, [], ◌∷◌, ◌++◌, length, refl, sym, ap, ◌∙◌, subst, arith, ◌⊎◌, inl, inr, append_assoc, append-nil, if◌then◌else◌, cond}
 use Rattle.std.specs.Prelude.{⊤, ◌-◌, nat_lt, count_by}
 use Rattle.std.proofs.lemmas.Bool.{true≢false, false≢true, ltb-true, lt-ltb, and_parts, and_from}
 use Rattle.std.proofs.lemmas.List.Sums.{sum_by-append}
@@ -7,7 +7,6 @@ use Rattle.std.proofs.lemmas.Bool.Decides.{nat_tests}
 use Rattle.cm_syntax.specs.declared.token.Sign.TheVariants as sign
 use Rattle.cm_syntax.specs.Limit.{max_source_bytes, max_open_brackets, max_depth, max_operators, max_literal, max_array_words}
 use Rattle.cm_syntax.specs.Token.{Token, LocatedToken}
-use Rattle.cm_syntax.specs.ParseTree.{Offset}
 use Rattle.cm_syntax.specs.Yield.{Quantity, CountedToken, located_tokens}
 use Rattle.cm_syntax.specs.Refusal.{Refusal, is_opening, is_closing, open_brackets, IsTooMuch, IsTooNested}
 use Rattle.cm_syntax.specs.Machine.{State, Next, goes, stops, step, finish, is_within, readable, nested_tokens, Answer, refused, end_answer, token_answer, run}

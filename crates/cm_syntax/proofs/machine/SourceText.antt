@@ -7,14 +7,14 @@ use Rattle.cm_syntax.specs.declared.stmt.Tree.{Tree}
 use Rattle.cm_syntax.specs.Token.{Tokens}
 use Rattle.cm_syntax.specs.ParseTree.{Offset}
 use Rattle.cm_syntax.specs.Grammar.{IsSourceOf}
-use Rattle.cm_syntax.specs.Refusal.{Refusal, IsAnswer, Size}
+use Rattle.cm_syntax.specs.Refusal.{Refusal, IsAnswer}
 use Rattle.cm_syntax.specs.Resolution.{Variable, ResolvesTo}
 use Rattle.cm_syntax.specs.Number.{function_numbers}
 use Rattle.cm_syntax.specs.Fault.{faults, program_of}
 use Rattle.cm_syntax.specs.Row.{HasFunctions, IsAccepted, HasNumbers, ResolvesToSlot, IsSoundSource}
-use Rattle.cm_syntax.specs.Machine.{Answer, accepted, refused, text_answer}
+use Rattle.cm_syntax.specs.Machine.{Answer, accepted, refused, text_answer, IsAnswerTo}
 use Rattle.cm_syntax.proofs.Lexing.{lexed, lexed_tokens}
-use Rattle.cm_syntax.proofs.machine.Answer.{IsAnswerTo, text_answered}
+use Rattle.cm_syntax.proofs.machine.Answer.{text_answered}
 
 -- the tokens of a text
 pub tokens_of : (bytes : List ℕ) → Tokens 0 bytes (lexed (length bytes) 0 bytes)
@@ -30,9 +30,6 @@ answered bytes = text_answered bytes (lexed (length bytes) 0 bytes) (tokens_of b
 -- a text that is refused
 pub is_refused : {bytes : List ℕ} {refusal : Refusal} {at : Offset} → answer_to bytes ≡ refused refusal at → IsAnswer bytes refusal at
 is_refused {bytes} e = subst (IsAnswerTo bytes) e (answered bytes)
-
-pub has_size : {bytes : List ℕ} {at : Offset} → answer_to bytes ≡ refused Refusal.size at → Size bytes at
-has_size e = (is_refused e).refused
 
 -- what is said of the tree of an accepted text of this length
 abbrev pub OfTree : (Tree → Type 0) → (length : ℕ) → Answer → Type 0

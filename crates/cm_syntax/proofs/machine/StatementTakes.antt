@@ -1,13 +1,10 @@
 -- A token that is taken in a state of a declaration or a statement, with what may follow the next state, may follow the
 -- state.
-use Rattle.std.proofs.Common.{◌≡◌, ℕ, ◌+◌, Bool, true, false, List, [], ◌∷◌, ◌++◌, refl, sym, ap, ◌∙◌, subst, Option, None, Some, pos}
-use Rattle.std.specs.Prelude.{if◌then◌else◌}
+use Rattle.std.proofs.Common.{◌≡◌, ℕ, true, false, List, [], ◌∷◌, refl, ◌∙◌, subst, None, Some, pos}
 use Rattle.cm_syntax.specs.declared.name.Name.{Name}
 use Rattle.cm_syntax.specs.declared.expr.Op.{Op}
 use Rattle.cm_syntax.specs.declared.expr.Op.TheVariants as op
-use Rattle.cm_syntax.specs.declared.expr.Expr.{Expr}
 use Rattle.cm_syntax.specs.declared.expr.Expr.TheVariants as expression
-use Rattle.cm_syntax.specs.declared.expr.Arg.{Arg}
 use Rattle.cm_syntax.specs.declared.expr.Call.{Call}
 use Rattle.cm_syntax.specs.declared.stmt.Slot.TheVariants as slot
 use Rattle.cm_syntax.specs.declared.stmt.Item.{Item}
@@ -16,27 +13,26 @@ use Rattle.cm_syntax.specs.declared.stmt.Target.TheVariants as target
 use Rattle.cm_syntax.specs.declared.stmt.Stmt.{Stmt}
 use Rattle.cm_syntax.specs.declared.stmt.Stmt.TheVariants as statement
 use Rattle.cm_syntax.specs.declared.token.Keyword.TheVariants as keyword
-use Rattle.cm_syntax.specs.declared.token.Sign.{Sign}
 use Rattle.cm_syntax.specs.declared.token.Sign.TheVariants as sign
 use Rattle.cm_syntax.specs.Token.{Token, LocatedToken, token_at}
 use Rattle.cm_syntax.specs.ParseTree.{Mark, Offset, is_update, AnyExpression, Declaration, Simple, FirstPart, Plain, Statements}
 use Rattle.cm_syntax.specs.ParseTree as grammar
 use Rattle.cm_syntax.specs.Yield.{Quantity, update_sign}
-use Rattle.cm_syntax.specs.Machine.{State, Next, goes, stops, on, step, is_sign, is_word, value, value_step, call, call_of, item, declarator, declaration, words_step, count_on, pointee, target_step, update_operator, update_step, writing_step, simple_name_step, simple_step, with_semicolon, parenthesized, body, for_parts, split_parts, spawned, plain_step, statement_step}
-use Rattle.cm_syntax.proofs.machine.Written.{sign_then, word_then, name_then, call_then, any_then, optional_then, item_then, items_then, declaration_then, target_then, simple_then, first_part_then, last_part_then, plain_then, statements_then}
-use Rattle.cm_syntax.proofs.machine.Wanted.{Begins, begins, Closed, closed_then, FirstArguments, first_arguments_then, ItemName, item_name_then, Words, MoreItems, more_items_then, TargetName, target_name_then, Writing, writing_then, SimpleName, simple_name_then, AnyPlain, any_plain_then, Destination, destination_then, PlainName, plain_name_then, Otherwise, otherwise_then, Block, block_then, Continues}
-use Rattle.cm_syntax.proofs.machine.ExpressionTakes.{Enters, by_either, by_sign, by_word, BehindValue, value_begins, closed_begins, value_takes}
+use Rattle.cm_syntax.specs.Machine.{State, step, is_sign, call_of, item, declarator, declaration, words_step, count_on, pointee, target_step, update_step, writing_step, simple_name_step, simple_step}
+use Rattle.cm_syntax.proofs.machine.Written.{sign_then, word_then, name_then, call_then, any_then, item_then, items_then, declaration_then, target_then, simple_then, first_part_then, last_part_then}
+use Rattle.cm_syntax.proofs.machine.Wanted.{Begins, begins, Closed, closed_then, FirstArguments, first_arguments_then, ItemName, item_name_then, Words, MoreItems, more_items_then, TargetName, target_name_then, Writing, writing_then, SimpleName, simple_name_then, Continues}
+use Rattle.cm_syntax.proofs.machine.ExpressionTakes.{Enters, by_either, by_sign, by_word, BehindValue, value_begins, closed_begins}
 
 -- behind a statement a continuation goes on
 abbrev pub BehindStatement : (Stmt Name → State) → List LocatedToken → Type 0
 BehindStatement k rest = (s : Stmt Name) × Continues (k s) rest
 
 -- behind declarators a continuation goes on
-abbrev BehindItems : (List (Item Name) → State) → List LocatedToken → Type 0
+abbrev pub BehindItems : (List (Item Name) → State) → List LocatedToken → Type 0
 BehindItems k rest = (all : List (Item Name)) × Continues (k all) rest
 
 -- behind a declarator a continuation goes on
-abbrev BehindItem : (Item Name → State) → List LocatedToken → Type 0
+abbrev pub BehindItem : (Item Name → State) → List LocatedToken → Type 0
 BehindItem k rest = (i : Item Name) × Continues (k i) rest
 
 -- behind a target a continuation goes on
@@ -105,8 +101,8 @@ more_items_take token at before k w passes h =
     by_items w (begins all rest h) = begins (MoreItems.some at all) rest h
 
 -- behind the `int` of a declaration
-pub declared : (at : Offset) (k : Stmt Name → State) (w : List LocatedToken) → Continues (declaration k) w → Begins declaration_then (BehindStatement k) (word_then keyword.Int at w)
-declared at k w h = by_items w (items_begin [] (λ items. k (statement.Declare items)) w h)
+pub declaration_begins : (at : Offset) (k : Stmt Name → State) (w : List LocatedToken) → Continues (declaration k) w → Begins declaration_then (BehindStatement k) (word_then keyword.Int at w)
+declaration_begins at k w h = by_items w (items_begin [] (λ items. k (statement.Declare items)) w h)
   where
     by_items : (w : List LocatedToken) → Begins items_then (BehindItems (λ items. k (statement.Declare items))) w → Begins declaration_then (BehindStatement k) (word_then keyword.Int at w)
     by_items w (begins all rest (trees, h)) = begins (record { int_at = at; items = all }) rest (statement.Declare trees, h)
@@ -134,8 +130,8 @@ unfolding named_target
 named_target_same x TargetName.nothing rest = refl
 named_target_same x (TargetName.index opening (Closed.closed e closing)) rest = refl
 
-pointed : (at : Offset) (k : Target Name → State) (w : List LocatedToken) → Continues (pointee k) w → Begins target_then (BehindTarget k) (sign_then sign.Star at w)
-pointed at k w (begins p rest (tree, h)) = begins (grammar.Target.pointee at p) rest (target.Index tree (expression.Number (pos 0)), h)
+pointee_begins : (at : Offset) (k : Target Name → State) (w : List LocatedToken) → Continues (pointee k) w → Begins target_then (BehindTarget k) (sign_then sign.Star at w)
+pointee_begins at k w (begins p rest (tree, h)) = begins (grammar.Target.pointee at p) rest (target.Index tree (expression.Number (pos 0)), h)
 
 pub target_takes : (token : Token) (at : Offset) (k : Target Name → State) (w : List LocatedToken) → Enters (target_step token at k) w → Continues (State.target_next k) (token_at token at ∷ w)
 target_takes (Token.name x) at k w h = by_name w h
@@ -143,7 +139,7 @@ target_takes (Token.name x) at k w h = by_name w h
     by_name : (w : List LocatedToken) → Continues (State.target_name (record { name = x; at = at }) k) w → Begins target_then (BehindTarget k) (token_at (Token.name x) at ∷ w)
     by_name w (begins t rest h) =
         subst (Begins target_then (BehindTarget k)) (named_target_same (record { name = x; at = at }) t rest) (begins (named_target (record { name = x; at = at }) t) rest h)
-target_takes (Token.sign sign.Star) at k w h = pointed at k w h
+target_takes (Token.sign sign.Star) at k w h = pointee_begins at k w h
 target_takes (Token.sign _) at k w h = absurd h
 target_takes (Token.keyword _) at k w h = absurd h
 target_takes (Token.number _) at k w h = absurd h
@@ -240,7 +236,7 @@ simple_takes (Token.name x) at first k w h = by_name w h
     by_name : (w : List LocatedToken) → Continues (State.simple_name (record { name = x; at = at }) k) w → Begins simple_then (BehindStatement k) (token_at (Token.name x) at ∷ w)
     by_name w (begins s rest h) =
         subst (Begins simple_then (BehindStatement k)) (named_simple_same (record { name = x; at = at }) s rest) (begins (named_simple (record { name = x; at = at }) s) rest h)
-simple_takes (Token.sign sign.Star) at first k w h = by_target (sign_then sign.Star at w) (pointed at (λ written. State.writing written k) w h)
+simple_takes (Token.sign sign.Star) at first k w h = by_target (sign_then sign.Star at w) (pointee_begins at (λ written. State.writing written k) w h)
   where
     by_target : (w : List LocatedToken) → Begins target_then (BehindTarget (λ written. State.writing written k)) w → Begins simple_then (BehindStatement k) w
     by_target w (begins t _ (tree, begins writing rest h)) = subst (Begins simple_then (BehindStatement k)) (written_simple_same t writing rest) (begins (written_simple t writing) rest h)
@@ -258,7 +254,7 @@ pub first_part_takes : (token : Token) (at : Offset) (k : Stmt Name → State) (
     Enters (step (State.first_part k) token at) w → Continues (State.first_part k) (token_at token at ∷ w)
 first_part_takes token at k w passes h =
     by_either (is_sign sign.Semicolon token) (step (k statement.Empty) token at) _ w (λ h. begins FirstPart.nothing (token_at token at ∷ w) (statement.Empty, passes h))
-    (λ h. by_word keyword.Int token _ _ w (λ t. Continues (State.first_part k) (token_at t at ∷ w)) (λ h. by_declaration (word_then keyword.Int at w) (declared at k w h))
+    (λ h. by_word keyword.Int token _ _ w (λ t. Continues (State.first_part k) (token_at t at ∷ w)) (λ h. by_declaration (word_then keyword.Int at w) (declaration_begins at k w h))
     (λ h. by_simple (token_at token at ∷ w) (simple_takes token at Quantity.nothing k w h)) h) h
   where
     by_declaration : (w : List LocatedToken) → Begins declaration_then (BehindStatement k) w → Begins first_part_then (BehindStatement k) w

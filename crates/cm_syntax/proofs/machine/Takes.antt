@@ -1,6 +1,6 @@
 -- A token that is taken, with what may follow the next state, may follow the state. So tokens that were taken are the
 -- first ones of a program, and where they may end they are one.
-use Rattle.std.proofs.Common.{◌≡◌, ℕ, ◌+◌, Bool, true, false, List, [], ◌∷◌, ◌++◌, refl, ap, subst, Option, None, Some}
+use Rattle.std.proofs.Common.{◌≡◌, Bool, true, false, List, [], ◌∷◌, ◌++◌, refl, ap, subst, Option, None, Some}
 use Rattle.std.specs.Prelude.{if◌then◌else◌}
 use Rattle.cm_syntax.specs.declared.name.Name.{Name}
 use Rattle.cm_syntax.specs.declared.expr.Expr.TheVariants as expression
@@ -14,22 +14,14 @@ use Rattle.cm_syntax.specs.declared.token.Sign.TheVariants as sign
 use Rattle.cm_syntax.specs.Token.{Token, LocatedToken, token_at}
 use Rattle.cm_syntax.specs.ParseTree.{Mark, Offset, Parameter, ParameterList, Parameters}
 use Rattle.cm_syntax.specs.ParseTree as grammar
-use Rattle.cm_syntax.specs.Machine.{State, Next, goes, stops, step, finish, is_sign, is_word, item, parameter, parameter_step, function_of, type_step, function_step, some_functions}
-use Rattle.cm_syntax.proofs.machine.Written.{sign_then, word_then, name_then, parameter_then, parameter_list_then, cilk_then, function_then, program_then}
-use Rattle.cm_syntax.proofs.machine.Wanted.{Begins, begins, Tail, OperandName, ItemName, MoreItems, TargetName, Otherwise, Block, Declarator, declarator_then, ParameterName, parameter_name_then, FirstParameters, first_parameters_then, MoreParameters, more_parameters_then, ReturnType, return_type_then, Functions, functions_then, CanEnd, Continues}
+use Rattle.cm_syntax.specs.Machine.{State, step, finish, item, parameter, parameter_step, function_of, type_step, function_step}
+use Rattle.cm_syntax.proofs.machine.Written.{sign_then, word_then, parameter_then, parameter_list_then, cilk_then, function_then}
+use Rattle.cm_syntax.proofs.machine.Wanted.{Begins, begins, Tail, OperandName, ItemName, MoreItems, TargetName, Otherwise, Block, Declarator, declarator_then, ParameterName, parameter_name_then, FirstParameters, first_parameters_then, MoreParameters, more_parameters_then, ReturnType, Functions, Continues}
 use Rattle.cm_syntax.proofs.machine.ExpressionTakes.{Enters, by_sign, by_word, operand_takes, operand_name_takes, operators_take, name_takes, argument_takes, first_argument_takes, more_arguments_take, optional_takes}
-use Rattle.cm_syntax.proofs.machine.StatementTakes.{words_take, item_name_takes, more_items_take, target_takes, target_name_takes, writing_takes, simple_takes, simple_name_takes, first_part_takes, last_part_takes}
+use Rattle.cm_syntax.proofs.machine.StatementTakes.{BehindItem, BehindItems, words_take, item_name_takes, more_items_take, target_takes, target_name_takes, writing_takes, simple_takes, simple_name_takes, first_part_takes, last_part_takes}
 use Rattle.cm_syntax.proofs.machine.PlainTakes.{plain_takes, destination_takes, plain_name_takes, otherwise_takes, statements_take}
 
 -- ---- parameters
-
--- behind parameters a continuation goes on
-abbrev BehindItems : (List (Item Name) → State) → List LocatedToken → Type 0
-BehindItems k rest = (all : List (Item Name)) × Continues (k all) rest
-
--- behind a parameter a continuation goes on
-abbrev BehindItem : (Item Name → State) → List LocatedToken → Type 0
-BehindItem k rest = (i : Item Name) × Continues (k i) rest
 
 parameter_takes : (token : Token) (at : Offset) (k : Item Name → State) (w : List LocatedToken) → Enters (parameter_step token at k) w → Continues (State.parameter_declarator k) (token_at token at ∷ w)
 parameter_takes (Token.name x) at k w h = by_name w h

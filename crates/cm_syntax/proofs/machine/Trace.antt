@@ -1,8 +1,9 @@
 -- What the machine counts at tokens, and how traces are put together.
-use Rattle.std.proofs.Common.{◌≡◌, suc, List, [], ◌∷◌, ◌++◌, length, refl, ap, ◌∙◌}
+use Rattle.std.proofs.Common.{◌≡◌, List, [], ◌∷◌, ◌++◌, refl, ap, ◌∙◌}
 use Rattle.cm_syntax.specs.Token.{LocatedToken}
 use Rattle.cm_syntax.specs.ParseTree.{Offset}
 use Rattle.cm_syntax.specs.Yield.{Quantity, CountedToken, located_tokens}
+use Rattle.cm_syntax.proofs.YieldLaws.{regroup}
 use Rattle.cm_syntax.specs.Machine.{State, Next, goes, stops, step}
 
 -- the counts at the tokens that the machine takes, and where it comes to or stops
@@ -27,18 +28,6 @@ taken (t ∷ tokens) more = took t.quantity (taken tokens more)
 pub taken-append : (a b : List CountedToken) (more : Trace) → taken (a ++ b) more ≡ taken a (taken b more)
 taken-append [] b more = refl
 taken-append (t ∷ a) b more = ap (took t.quantity) (taken-append a b more)
-
-pub regroup : (a b : List CountedToken) (rest : List LocatedToken) → located_tokens (a ++ b) ++ rest ≡ located_tokens a ++ (located_tokens b ++ rest)
-regroup [] b rest = refl
-regroup (t ∷ a) b rest = ap (λ x. t.located ∷ x) (regroup a b rest)
-
-pub located-append : (a b : List CountedToken) → located_tokens (a ++ b) ≡ located_tokens a ++ located_tokens b
-located-append [] b = refl
-located-append (t ∷ a) b = ap (λ x. t.located ∷ x) (located-append a b)
-
-pub length-located : (tokens : List CountedToken) → length (located_tokens tokens) ≡ length tokens
-length-located [] = refl
-length-located (t ∷ tokens) = ap suc (length-located tokens)
 
 -- The machine takes these tokens, in front of this rest, with what is counted at them, and comes to this state. It
 -- may have looked at the first token of the rest.

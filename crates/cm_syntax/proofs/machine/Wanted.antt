@@ -1,9 +1,8 @@
 -- What may follow in each state of the machine, up to the end of a text: the parts that are wanted one after another.
 -- It is said of tokens alone. A continuation goes on behind some tree of the part that is read.
-use Rattle.std.proofs.Common.{◌≡◌, ℕ, ◌≤◌, ◌<◌, Bool, true, false, List, [], ◌∷◌, ◌++◌, refl, arith, Option, None, Some, pos}
+use Rattle.std.proofs.Common.{◌≡◌, ℕ, ◌≤◌, ◌<◌, Bool, true, false, List, [], ◌∷◌, refl, arith, Option, None}
 use Rattle.cm_syntax.specs.declared.name.Name.{Name}
 use Rattle.cm_syntax.specs.declared.expr.Op.{Op}
-use Rattle.cm_syntax.specs.declared.expr.Op.TheVariants as op
 use Rattle.cm_syntax.specs.declared.expr.Expr.{Expr}
 use Rattle.cm_syntax.specs.declared.expr.Expr.TheVariants as expression
 use Rattle.cm_syntax.specs.declared.expr.Arg.{Arg}
@@ -21,7 +20,7 @@ use Rattle.cm_syntax.specs.Token.{Token, LocatedToken, token_at}
 use Rattle.cm_syntax.specs.ParseTree.{Mark, Offset, is_unary, is_update, level_of, Expression, Arguments, Argument, AnyExpression, Simple, FirstPart, Plain, Statements, ParameterList, Parameters}
 use Rattle.cm_syntax.specs.ParseTree as grammar
 use Rattle.cm_syntax.specs.Yield.{sign_of, update_sign, step_sign}
-use Rattle.cm_syntax.specs.Machine.{State, item, count_on}
+use Rattle.cm_syntax.specs.Machine.{State, item}
 use Rattle.cm_syntax.proofs.machine.Written.{sign_then, word_then, name_then, expression_then, call_then, arguments_then, any_then, optional_then, items_then, target_then, simple_then, first_part_then, last_part_then, plain_then, statements_then, parameter_list_then, parameters_then, function_then, program_then}
 
 -- the tokens are those of some x, and what follows them is so
@@ -314,42 +313,42 @@ function_ = record {
 abbrev pub CanGoOn : State → Type 0
 CanGoOn s = (w : List LocatedToken) × Continues s w
 
-pub inhabited : (s : State) → CanGoOn s
+pub can_go_on : (s : State) → CanGoOn s
 unfolding name call_ function_
-inhabited (State.sign_next s next) = let more = inhabited next in (_, begins 0 more.0 more.1)
-inhabited (State.word_next k next) = let more = inhabited next in (_, begins 0 more.0 more.1)
-inhabited (State.name_next k) = let more = inhabited (k name) in (_, begins name more.0 (name, more.1))
-inhabited (State.operand n k) =
-    let more = inhabited (k expression.Inputs n) in (_, begins (AtLeast.at_least (omega arith) (Expression.inputs 0 0 0)) more.0 (expression.Inputs, n, more.1))
-inhabited (State.operand_name x n k) = let more = inhabited (k (expression.Scalar x) n) in (_, begins OperandName.nothing more.0 (expression.Scalar x, n, more.1))
-inhabited (State.operators level n e k) = let more = inhabited (k e n) in (_, begins Tail.end more.0 (e, n, more.1))
-inhabited (State.first_argument k) = let more = inhabited (k []) in (_, begins (FirstArguments.none 0) more.0 ([], more.1))
-inhabited (State.next_argument before k) =
-    let more = inhabited (k []) in (_, begins (NextArguments.some (Arguments.last (Argument.address 0 name)) 0) more.0 ([], more.1))
-inhabited (State.more_arguments before k) = let more = inhabited (k []) in (_, begins (MoreArguments.none 0) more.0 ([], more.1))
-inhabited (State.optional_value k) = let more = inhabited (k None) in (_, begins None more.0 (None, more.1))
-inhabited (State.item_name x k) = let more = inhabited (k (item x slot.Scalar)) in (_, begins ItemName.nothing more.0 (item x slot.Scalar, more.1))
-inhabited (State.array_words k) = let more = inhabited (k 0) in (_, begins (Words.words 0 0) more.0 (0, more.1))
-inhabited (State.more_items before k) = let more = inhabited (k []) in (_, begins MoreItems.none more.0 ([], more.1))
-inhabited (State.target_next k) = let more = inhabited (k (target.Scalar name)) in (_, begins (grammar.Target.scalar name) more.0 (target.Scalar name, more.1))
-inhabited (State.target_name x k) = let more = inhabited (k (target.Scalar x)) in (_, begins TargetName.nothing more.0 (target.Scalar x, more.1))
-inhabited (State.writing written k) = let more = inhabited (k statement.Empty) in (_, begins (Writing.step true 0) more.0 (statement.Empty, more.1))
-inhabited (State.simple first k) = let more = inhabited (k statement.Empty) in (_, begins (Simple.call call_) more.0 (statement.Empty, more.1))
-inhabited (State.simple_name x k) = let more = inhabited (k statement.Empty) in (_, begins (SimpleName.call 0 (FirstArguments.none 0)) more.0 (statement.Empty, more.1))
-inhabited (State.first_part k) = let more = inhabited (k statement.Empty) in (_, begins FirstPart.nothing more.0 (statement.Empty, more.1))
-inhabited (State.last_part k) = let more = inhabited (k statement.Empty) in (_, begins None more.0 (statement.Empty, more.1))
-inhabited (State.plain d inner k) = let more = inhabited (k statement.Empty) in (_, begins (AnyPlain.plain (Plain.empty 0)) more.0 (statement.Empty, more.1))
-inhabited (State.plain_name x k) =
-    let more = inhabited (k statement.Empty) in (_, begins (PlainName.simple (SimpleName.call 0 (FirstArguments.none 0)) 0) more.0 (statement.Empty, more.1))
-inhabited (State.destination x k) = let more = inhabited (k statement.Empty) in (_, begins (Destination.spawn 0 call_ 0) more.0 (statement.Empty, more.1))
-inhabited (State.otherwise d test chosen k) = let more = inhabited (k statement.Empty) in (_, begins Otherwise.none more.0 (statement.Empty, more.1))
-inhabited (State.statements d before k) = let more = inhabited (k [] 0) in (_, begins (Block.block Statements.none 0) more.0 ([], 0, more.1))
-inhabited (State.first_parameter k) = let more = inhabited (k []) in (_, begins (FirstParameters.between Parameters.none 0) more.0 ([], more.1))
-inhabited (State.parameter_declarator k) = let more = inhabited (k (item name slot.Scalar)) in (_, begins (Declarator.scalar name) more.0 (item name slot.Scalar, more.1))
-inhabited (State.parameter_name x k) = let more = inhabited (k (item x slot.Scalar)) in (_, begins ParameterName.nothing more.0 (item x slot.Scalar, more.1))
-inhabited (State.more_parameters before k) = let more = inhabited (k []) in (_, begins (MoreParameters.none 0) more.0 ([], more.1))
-inhabited (State.function_next k) =
+can_go_on (State.sign_next s next) = let more = can_go_on next in (_, begins 0 more.0 more.1)
+can_go_on (State.word_next k next) = let more = can_go_on next in (_, begins 0 more.0 more.1)
+can_go_on (State.name_next k) = let more = can_go_on (k name) in (_, begins name more.0 (name, more.1))
+can_go_on (State.operand n k) =
+    let more = can_go_on (k expression.Inputs n) in (_, begins (AtLeast.at_least (omega arith) (Expression.inputs 0 0 0)) more.0 (expression.Inputs, n, more.1))
+can_go_on (State.operand_name x n k) = let more = can_go_on (k (expression.Scalar x) n) in (_, begins OperandName.nothing more.0 (expression.Scalar x, n, more.1))
+can_go_on (State.operators level n e k) = let more = can_go_on (k e n) in (_, begins Tail.end more.0 (e, n, more.1))
+can_go_on (State.first_argument k) = let more = can_go_on (k []) in (_, begins (FirstArguments.none 0) more.0 ([], more.1))
+can_go_on (State.next_argument before k) =
+    let more = can_go_on (k []) in (_, begins (NextArguments.some (Arguments.last (Argument.address 0 name)) 0) more.0 ([], more.1))
+can_go_on (State.more_arguments before k) = let more = can_go_on (k []) in (_, begins (MoreArguments.none 0) more.0 ([], more.1))
+can_go_on (State.optional_value k) = let more = can_go_on (k None) in (_, begins None more.0 (None, more.1))
+can_go_on (State.item_name x k) = let more = can_go_on (k (item x slot.Scalar)) in (_, begins ItemName.nothing more.0 (item x slot.Scalar, more.1))
+can_go_on (State.array_words k) = let more = can_go_on (k 0) in (_, begins (Words.words 0 0) more.0 (0, more.1))
+can_go_on (State.more_items before k) = let more = can_go_on (k []) in (_, begins MoreItems.none more.0 ([], more.1))
+can_go_on (State.target_next k) = let more = can_go_on (k (target.Scalar name)) in (_, begins (grammar.Target.scalar name) more.0 (target.Scalar name, more.1))
+can_go_on (State.target_name x k) = let more = can_go_on (k (target.Scalar x)) in (_, begins TargetName.nothing more.0 (target.Scalar x, more.1))
+can_go_on (State.writing written k) = let more = can_go_on (k statement.Empty) in (_, begins (Writing.step true 0) more.0 (statement.Empty, more.1))
+can_go_on (State.simple first k) = let more = can_go_on (k statement.Empty) in (_, begins (Simple.call call_) more.0 (statement.Empty, more.1))
+can_go_on (State.simple_name x k) = let more = can_go_on (k statement.Empty) in (_, begins (SimpleName.call 0 (FirstArguments.none 0)) more.0 (statement.Empty, more.1))
+can_go_on (State.first_part k) = let more = can_go_on (k statement.Empty) in (_, begins FirstPart.nothing more.0 (statement.Empty, more.1))
+can_go_on (State.last_part k) = let more = can_go_on (k statement.Empty) in (_, begins None more.0 (statement.Empty, more.1))
+can_go_on (State.plain d inner k) = let more = can_go_on (k statement.Empty) in (_, begins (AnyPlain.plain (Plain.empty 0)) more.0 (statement.Empty, more.1))
+can_go_on (State.plain_name x k) =
+    let more = can_go_on (k statement.Empty) in (_, begins (PlainName.simple (SimpleName.call 0 (FirstArguments.none 0)) 0) more.0 (statement.Empty, more.1))
+can_go_on (State.destination x k) = let more = can_go_on (k statement.Empty) in (_, begins (Destination.spawn 0 call_ 0) more.0 (statement.Empty, more.1))
+can_go_on (State.otherwise d test chosen k) = let more = can_go_on (k statement.Empty) in (_, begins Otherwise.none more.0 (statement.Empty, more.1))
+can_go_on (State.statements d before k) = let more = can_go_on (k [] 0) in (_, begins (Block.block Statements.none 0) more.0 ([], 0, more.1))
+can_go_on (State.first_parameter k) = let more = can_go_on (k []) in (_, begins (FirstParameters.between Parameters.none 0) more.0 ([], more.1))
+can_go_on (State.parameter_declarator k) = let more = can_go_on (k (item name slot.Scalar)) in (_, begins (Declarator.scalar name) more.0 (item name slot.Scalar, more.1))
+can_go_on (State.parameter_name x k) = let more = can_go_on (k (item x slot.Scalar)) in (_, begins ParameterName.nothing more.0 (item x slot.Scalar, more.1))
+can_go_on (State.more_parameters before k) = let more = can_go_on (k []) in (_, begins (MoreParameters.none 0) more.0 ([], more.1))
+can_go_on (State.function_next k) =
     let f : Function Name = record { name = name; cilk = false; gives = true; parameters = []; body = []; slots = [] } in
-    let more = inhabited (k f) in (_, begins function_ more.0 (f, more.1))
-inhabited (State.return_type k) = let more = inhabited (k true) in (_, begins (ReturnType.int 0) more.0 (true, more.1))
-inhabited (State.functions_next before) = (_, (Functions.some (grammar.Program.last function_), tt, refl))
+    let more = can_go_on (k f) in (_, begins function_ more.0 (f, more.1))
+can_go_on (State.return_type k) = let more = can_go_on (k true) in (_, begins (ReturnType.int 0) more.0 (true, more.1))
+can_go_on (State.functions_next before) = (_, (Functions.some (grammar.Program.last function_), tt, refl))

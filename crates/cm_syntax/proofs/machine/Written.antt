@@ -1,5 +1,5 @@
 -- The tokens of a parse tree in front of others. Written so, what follows a part stands in its place by computing.
-use Rattle.std.proofs.Common.{◌≡◌, ℕ, ◌+◌, Bool, List, [], ◌∷◌, ◌++◌, refl, sym, ap, ◌∙◌, Option, None, Some, append-nil}
+use Rattle.std.proofs.Common.{◌≡◌, ℕ, ◌+◌, Bool, List, ◌∷◌, ◌++◌, refl, sym, ap, ◌∙◌, Option, None, Some}
 use Rattle.std.specs.Prelude.{if◌then◌else◌}
 use Rattle.cm_syntax.specs.declared.token.Keyword.{Keyword}
 use Rattle.cm_syntax.specs.declared.token.Keyword.TheVariants as keyword
@@ -8,8 +8,8 @@ use Rattle.cm_syntax.specs.declared.token.Sign.TheVariants as sign
 use Rattle.cm_syntax.specs.Token.{Token, LocatedToken, token_at}
 use Rattle.cm_syntax.specs.ParseTree.{Mark, Offset, Expression, Arguments, Argument, AnyExpression, Declaration, Simple, FirstPart, Plain, Statements, Parameter, ParameterList, Parameters}
 use Rattle.cm_syntax.specs.ParseTree as grammar
-use Rattle.cm_syntax.specs.Yield.{Quantity, CountedToken, sign_at, word_at, name_at, sign_of, update_sign, step_sign, operators_of, expression_tokens, call_tokens, simple_call_tokens, arguments_tokens, argument_tokens, any_tokens, optional_tokens, item_tokens, items_tokens, declaration_tokens, target_tokens, simple_tokens, first_part_tokens, last_part_tokens, plain_tokens, statements_tokens, parameter_tokens, parameter_list_tokens, parameters_tokens, cilk_tokens, function_tokens, program_tokens, located_tokens}
-use Rattle.cm_syntax.proofs.machine.Trace.{regroup}
+use Rattle.cm_syntax.specs.Yield.{Quantity, sign_of, update_sign, step_sign, operators_of, expression_tokens, call_tokens, simple_call_tokens, arguments_tokens, argument_tokens, any_tokens, optional_tokens, item_tokens, items_tokens, declaration_tokens, target_tokens, simple_tokens, first_part_tokens, last_part_tokens, plain_tokens, statements_tokens, parameter_tokens, parameter_list_tokens, parameters_tokens, cilk_tokens, function_tokens, program_tokens, located_tokens}
+use Rattle.cm_syntax.proofs.YieldLaws.{regroup}
 
 -- ---- tokens
 

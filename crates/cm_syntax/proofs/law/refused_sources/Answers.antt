@@ -1,5 +1,5 @@
 use Rattle.std.proofs.Common.{refl, inr}
-use Rattle.cm_syntax.proofs.machine.SourceText.{is_refused, has_size}
+use Rattle.cm_syntax.proofs.machine.SourceText.{is_refused}
 use Rattle.cm_syntax.proofs.law.refused_sources.Goals as goal
 
 pub returns-clause-empty : goal.returns-clause-empty
@@ -42,13 +42,43 @@ pub returns-clause-many_words : goal.returns-clause-many_words
 returns-clause-many_words c = is_refused refl
 
 pub returns-clause-parentheses : goal.returns-clause-parentheses
-returns-clause-parentheses c = has_size refl
+returns-clause-parentheses c = is_refused refl
 
 pub returns-clause-operators : goal.returns-clause-operators
-returns-clause-operators c = has_size refl
+returns-clause-operators c = is_refused refl
 
 pub returns-clause-loops : goal.returns-clause-loops
-returns-clause-loops c = has_size refl
+returns-clause-loops c = is_refused refl
+
+pub returns-clause-less_loops : goal.returns-clause-less_loops
+returns-clause-less_loops c = is_refused refl
+
+pub returns-clause-no_value : goal.returns-clause-no_value
+returns-clause-no_value c = is_refused refl
+
+pub returns-clause-second_else : goal.returns-clause-second_else
+returns-clause-second_else c = is_refused refl
+
+pub returns-clause-element_spawn : goal.returns-clause-element_spawn
+returns-clause-element_spawn c = is_refused refl
+
+pub returns-clause-for_spawn : goal.returns-clause-for_spawn
+returns-clause-for_spawn c = is_refused refl
+
+pub returns-clause-reference : goal.returns-clause-reference
+returns-clause-reference c = is_refused refl
+
+pub returns-clause-trailing_comma : goal.returns-clause-trailing_comma
+returns-clause-trailing_comma c = is_refused refl
+
+pub returns-clause-declared_body : goal.returns-clause-declared_body
+returns-clause-declared_body c = is_refused refl
+
+pub returns-clause-behind : goal.returns-clause-behind
+returns-clause-behind c = is_refused refl
+
+pub returns-clause-first_refused : goal.returns-clause-first_refused
+returns-clause-first_refused c = is_refused refl
 
 pub returns-clause-too_long : goal.returns-clause-too_long
 returns-clause-too_long c = λ bytes long. inr (refl, long)
