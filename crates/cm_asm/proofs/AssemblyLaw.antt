@@ -1,4 +1,4 @@
--- Laws of items: places, first labels, words and refusals.
+-- Laws of items: addresses, first labels, words and refusals.
 use Rattle.std.proofs.Common.{◌≡◌, ◌≢◌, ℕ, suc, ◌+◌, ◌*◌, ◌%◌, ◌^◌, ◌<◌, ◌≤◌, Bool, true, false, cond, not, eqb, ltb, List, [], ◌∷◌, ◌++◌, length, get_or, take, Option, Some, None, Result, Ok, Err, IsSome, IfSome, option_to_list, MatchOption, slice_get, refl, ap, sym, subst, ◌∙◌, append_assoc, arith, ⊎_elim, pos, ◌-ℤ◌, ℤ}
 use Rattle.std.specs.List.{position, position_or_len, sum_by}
 use Rattle.std.specs.Option.{option_or, option_map}
@@ -16,6 +16,7 @@ use Rattle.cm_isa.specs.Operation.{Operation, operation}
 use Rattle.cm_isa.specs.Address.{AreWordsOf}
 use Rattle.cm_isa.specs.declared.kind.Kind.{Kind}
 use Rattle.cm_isa.specs.declared.kind.Kind.TheVariants as kinds
+use Rattle.cm_asm.specs.declared.item.TheConstants.{MAX_ITEMS}
 use Rattle.cm_asm.specs.declared.item.Item.{Item}
 use Rattle.cm_asm.specs.declared.item.Item.TheVariants.{Plain, Label, Jump, Branch}
 use Rattle.cm_asm.specs.declared.assembler.Spot.{Spot}
@@ -263,7 +264,7 @@ operations_from-push items k (first ∷ rest) item =
 -- ---- the items so far
 
 -- the words are those of the items before the index k, none of which is refused
-pub record IsDone (items : List Item) (k : ℕ) (words : List ℕ) : Type 0 where
+pub record IsAssembledTo (items : List Item) (k : ℕ) (words : List ℕ) : Type 0 where
   pub words_of : AreWordsOf words (operations_from items 0 (take k items))
   pub address : address_of items k ≡ 4 * length words
   pub few : length words ≤ k
@@ -297,22 +298,22 @@ operations-more items k item e =
     ap (λ all. operations_from items 0 all) (take-one_more items k item e) ∙ push
     ∙ ap (λ at. operations_from items 0 (take k items) ++ option_to_list (operation_of items at item)) size
 
-done-item : (items : List Item) (k : ℕ) (words next : List ℕ) (given : Option ℕ) (item : Item) → slice_get items k ≡ Some item
-    → GivesItem items k item (Ok given) → IfSome given (λ w. w < 2 ^ 32) → next ≡ words ++ option_to_list given → IsDone items k words → IsDone items (k + 1) next
-done-item items k words next None item e h small f done =
+assembled-item : (items : List Item) (k : ℕ) (words next : List ℕ) (given : Option ℕ) (item : Item) → slice_get items k ≡ Some item
+    → GivesItem items k item (Ok given) → IfSome given (λ w. w < 2 ^ 32) → next ≡ words ++ option_to_list given → IsAssembledTo items k words → IsAssembledTo items (k + 1) next
+assembled-item items k words next None item e h small f so_far =
     let same : next ≡ words = f ∙ append-nil words in
     let more : operations_from items 0 (take (k + 1) items) ≡ operations_from items 0 (take k items) =
     operations-more items k item e ∙ ap (λ o. operations_from items 0 (take k items) ++ option_to_list o) h.0 ∙ append-nil (operations_from items 0 (take k items)) in
     let address = address-more items k item e in
     let size = size-none items k item h.0 h.1 in
     record {
-      words_of = rw (same, more) done.words_of;
-      address = rw same (let was = done.address in omega arith);
-      few = rw same (let was = done.few in omega arith);
-      each = rw same done.each;
-      fine = fine-more items k item e h.1 done.fine;
+      words_of = rw (same, more) so_far.words_of;
+      address = rw same (let was = so_far.address in omega arith);
+      few = rw same (let was = so_far.few in omega arith);
+      each = rw same so_far.each;
+      fine = fine-more items k item e h.1 so_far.fine;
     }
-done-item items k words next (Some w) item e h small f done =
+assembled-item items k words next (Some w) item e h small f so_far =
     let i = h.0 in
     let more : operations_from items 0 (take (k + 1) items) ≡ operations_from items 0 (take k items) ++ i ∷ [] =
     operations-more items k item e ∙ ap (λ o. operations_from items 0 (take k items) ++ option_to_list o) h.1 in
@@ -320,30 +321,30 @@ done-item items k words next (Some w) item e h small f done =
     let size = size-some items k item i h.1 in
     let longer = length_push words w in
     record {
-      words_of = rw (f, more) (AreWordsOf-push words (operations_from items 0 (take k items)) w i done.words_of h.2);
-      address = rw f (let was = done.address in omega arith);
-      few = rw f (let was = done.few in omega arith);
-      each = rw f (each-push words w done.each small);
-      fine = fine-more items k item e h.3 done.fine;
+      words_of = rw (f, more) (AreWordsOf-push words (operations_from items 0 (take k items)) w i so_far.words_of h.2);
+      address = rw f (let was = so_far.address in omega arith);
+      few = rw f (let was = so_far.few in omega arith);
+      each = rw f (each-push words w so_far.each small);
+      fine = fine-more items k item e h.3 so_far.fine;
     }
 
-done-at : (items : List Item) (k : ℕ) (words next : List ℕ) (given : Option ℕ) (o : Option Item) → slice_get items k ≡ o
-    → MatchOption o ⊥ (λ item. GivesItem items k item (Ok given)) → IfSome given (λ w. w < 2 ^ 32) → next ≡ words ++ option_to_list given → IsDone items k words → IsDone items (k + 1) next
-done-at items k words next given None e h small f done = absurd h
-done-at items k words next given (Some item) e h small f done = done-item items k words next given item e h small f done
+assembled-at : (items : List Item) (k : ℕ) (words next : List ℕ) (given : Option ℕ) (o : Option Item) → slice_get items k ≡ o
+    → MatchOption o ⊥ (λ item. GivesItem items k item (Ok given)) → IfSome given (λ w. w < 2 ^ 32) → next ≡ words ++ option_to_list given → IsAssembledTo items k words → IsAssembledTo items (k + 1) next
+assembled-at items k words next given None e h small f so_far = absurd h
+assembled-at items k words next given (Some item) e h small f so_far = assembled-item items k words next given item e h small f so_far
 
 -- one item more
-pub done-more : (items : List Item) (k : ℕ) (words next : List ℕ) (given : Option ℕ) → GivesAt items k (Ok given) → IfSome given (λ w. w < 2 ^ 32)
-    → next ≡ words ++ option_to_list given → IsDone items k words → IsDone items (k + 1) next
-done-more items k words next given h small f done = done-at items k words next given (slice_get items k) refl h small f done
+pub assembled-more : (items : List Item) (k : ℕ) (words next : List ℕ) (given : Option ℕ) → GivesAt items k (Ok given) → IfSome given (λ w. w < 2 ^ 32)
+    → next ≡ words ++ option_to_list given → IsAssembledTo items k words → IsAssembledTo items (k + 1) next
+assembled-more items k words next given h small f so_far = assembled-at items k words next given (slice_get items k) refl h small f so_far
 
 -- no item is refused
 pub all-fine : (items : List Item) → ((k : ℕ) (refusal : AsmRefusal) → k < length items → IsRefusedAt items k refusal → ⊥) → AreAccepted items
 all-fine items fine = λ k refusal h. fine k refusal (IsRefusedAt-inside items k refusal h) h
 
 -- all items
-pub all-done : (items : List Item) (k : ℕ) (words : List ℕ) → length items ≤ 4194304 → k ≤ length items → IsDone items k words → AreWords words
-all-done items k words few inside done = record { few = let short = done.few in omega arith; each = done.each }
+pub all-assembled : (items : List Item) (k : ℕ) (words : List ℕ) → length items ≤ MAX_ITEMS → k ≤ length items → IsAssembledTo items k words → AreWords words
+all-assembled items k words few inside so_far = record { few = let short = so_far.few in omega arith; each = so_far.each }
 
 -- the item that was read
 pub found-at : (items : List Item) (k : ℕ) (d item : Item) → k < length items → get_or items k d ≡ item → slice_get items k ≡ Some item

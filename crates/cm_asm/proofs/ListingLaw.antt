@@ -1,4 +1,4 @@
--- Laws of the listing: lengths, places, and that each part is read back.
+-- Laws of the listing: lengths, addresses, and that each part is read back.
 use Rattle.std.proofs.Common.{◌≡◌, ℕ, zero, suc, ◌+◌, ◌-◌, ◌*◌, ◌/◌, ◌%◌, ◌^◌, ◌<◌, List, [], ◌∷◌, ◌++◌, length, get_or, take, refl, sym, ◌∙◌, append_assoc, arith, length-append}
 use Rattle.std.proofs.lemmas.List.{append-nil, length_push, length-take-le, same_from_push, take_more}
 use Rattle.std.proofs.lemmas.Bool.Decides.{nat_tests}

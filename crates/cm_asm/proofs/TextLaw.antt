@@ -1,4 +1,4 @@
--- Laws of whole listings: each has one list of words, and a text leaves the listings at one place at most.
+-- Laws of whole listings: each has one list of words, and a text leaves the listings at one byte at most.
 use Rattle.std.proofs.Common.{◌≡◌, ℕ, zero, suc, ◌+◌, ◌-◌, ◌*◌, ◌^◌, ◌<◌, ◌≤◌, List, [], ◌∷◌, ◌++◌, length, get_or, take, drop, refl, ap, sym, ◌∙◌, append_assoc, arith, length-append, ⊎_elim}
 use Rattle.std.proofs.lemmas.Bool.{cases_lt}
 use Rattle.std.proofs.lemmas.List.{append-nil, append_cancel_left, length_push, length-take, length-take-le, length-drop, get_or_append_left, get_or-append_right, get_or-drop, get_or-take, take_at, drop_at, take_all, take-append-drop, take-take}

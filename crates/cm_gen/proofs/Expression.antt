@@ -20,7 +20,7 @@ use Rattle.cm_isa.specs.Machine.{Machine, Code, InstructionsAt, with_word}
 use Rattle.cm_isa.specs.Run.{ComesTo}
 use Rattle.cm_gen.specs.Code.{load_slot, store_slot, operate, evaluate, temporary}
 use Rattle.cm_gen.proofs.WordLaw as words
-use Rattle.cm_gen.proofs.Step.{comes_on, stands_front, stands_back}
+use Rattle.cm_gen.proofs.Step.{comes_on, instructions_front, instructions_back}
 use Rattle.cm_gen.proofs.Tree.{temporaries-Joined}
 use Rattle.cm_gen.proofs.PatternLaw.{Sets, Puts, load_number_runs, store_slot_runs, load_slot_runs, operate_runs}
 
@@ -78,8 +78,8 @@ pub record HasRoom (frame slots limit : ℕ) : Type 0 where
 abbrev pub AreMapped : (m : Machine) → (slots d limit : ℕ) → Type 0
 AreMapped m slots d limit = (j : ℕ) → d ≤ j → j < limit → IsSome (m.words (temporary_address (m.registers reg.FP) slots j))
 
-temporary_place : (frame slots limit j : ℕ) → HasRoom frame slots limit → j < limit → offset frame (temporary slots j) ≡ temporary_address frame slots j
-temporary_place frame slots limit j room h = words.offset_down frame (4 * (3 + slots + j)) (omega (arith, room.below)) room.word (temporary slots j) (minus frame (4 * (3 + slots + j)) (omega (arith, room.below)))
+temporary_offset : (frame slots limit j : ℕ) → HasRoom frame slots limit → j < limit → offset frame (temporary slots j) ≡ temporary_address frame slots j
+temporary_offset frame slots limit j room h = words.offset_down frame (4 * (3 + slots + j)) (omega (arith, room.below)) room.word (temporary slots j) (minus frame (4 * (3 + slots + j)) (omega (arith, room.below)))
   where
     minus : (f k : ℕ) → k ≤ f → pos f +ℤ neg_ℤ (pos k) ≡ pos (f - k)
     minus f k h = omega (arith, ints)
@@ -113,9 +113,9 @@ with_word_mapped w a v x h = elim (x == a) as (λ b. IsSome (if b then Some v el
 
 -- ---- the law
 
--- the machine t is at the place `bytes` further, x5 has the value v, x5, x6, x7 and the temporaries
+-- the machine t is at an address `bytes` further, x5 has the value v, x5, x6, x7 and the temporaries
 -- from d on may have changed, and all else is as in m
-pub record Evaluated (slots d limit : ℕ) (v : ℤ) (bytes : ℕ) (m t : Machine) : Type 0 where
+pub record Evaluates (slots d limit : ℕ) (v : ℤ) (bytes : ℕ) (m t : Machine) : Type 0 where
   pub counter : t.counter ≡ m.counter + bytes
   pub value : t.registers reg.VALUE ≡ cast_unsigned w32 v
   pub kept : (q : ℕ) → (q == reg.VALUE) ≡ false → (q == reg.LEFT) ≡ false → (q == reg.HELP) ≡ false → t.registers q ≡ m.registers q
@@ -127,13 +127,13 @@ module _ (code : Code) where
   -- the kept word brought back, and the operator
   joined_parts : (op : Op) (first keep second bring : List Operation) (slots d limit f : ℕ) (a b v : ℤ) (m t1 t2 t3 t4 t5 : Machine)
       → m.registers reg.FP ≡ f → HasRoom f slots limit → d < limit
-      → ComesTo code (length first) m t1 → Evaluated slots d limit a (4 * length first) m t1
+      → ComesTo code (length first) m t1 → Evaluates slots d limit a (4 * length first) m t1
       → ComesTo code (length keep) t1 t2 → Puts (temporary_address f slots d) (t1.registers reg.VALUE) (4 * length keep) t1 t2
-      → ComesTo code (length second) t2 t3 → Evaluated slots (d + 1) limit b (4 * length second) t2 t3
+      → ComesTo code (length second) t2 t3 → Evaluates slots (d + 1) limit b (4 * length second) t2 t3
       → ComesTo code (length bring) t3 t4 → Sets reg.LEFT (t1.registers reg.VALUE) (4 * length bring) t3 t4
       → ComesTo code 1 t4 t5 → Sets reg.VALUE (cast_unsigned w32 v) 4 t4 t5
       → (whole : List Operation) → length whole ≡ length first + (length keep + (length second + (length bring + 1)))
-      → ComesTo code (length whole) m t5 × Evaluated slots d limit v (4 * length whole) m t5
+      → ComesTo code (length whole) m t5 × Evaluates slots d limit v (4 * length whole) m t5
   joined_parts op first keep second bring slots d limit f a b v m t1 t2 t3 t4 t5 frame room within c1 e1 c2 e2 c3 e3 c4 e4 c5 e5 whole size = (
     subst (λ n. ComesTo code n m t5) (sym size)
         (comes_on code (length first) (length keep + (length second + (length bring + 1))) m t1 t5 c1
@@ -178,23 +178,23 @@ module _ (code : Code) where
   Brings bring f at = (n : Machine) (w : ℕ) → n.registers reg.FP ≡ f → n.words at ≡ Some w → n.counter + 12 < 2 ^ 32 → InstructionsAt code n.counter bring
       → (t : Machine) × ComesTo code (length bring) n t × Sets reg.LEFT w (4 * length bring) n t
 
-  -- what the code of an operand does from wherever it stands
+  -- what the code of an operand does from wherever it is
   abbrev Gives : (part : List Operation) (slots d limit f : ℕ) (a : ℤ) → Type 0
   Gives part slots d limit f a = (n : Machine) → n.registers reg.ZERO ≡ 0 → n.registers reg.FP ≡ f → AreMapped n slots d limit → n.counter + 4 * length part + 12 < 2 ^ 32
-      → InstructionsAt code n.counter part → (t : Machine) × ComesTo code (length part) n t × Evaluated slots d limit a (4 * length part) n t
+      → InstructionsAt code n.counter part → (t : Machine) × ComesTo code (length part) n t × Evaluates slots d limit a (4 * length part) n t
 
   joined_runs : (op : Op) (first keep second bring : List Operation) (slots d limit f : ℕ) (a b v : ℤ)
       → FitsSigned w32 a → FitsSigned w32 b → apply_operator op a b ≡ Some v → HasRoom f slots limit → d < limit
       → Gives first slots d limit f a → Keeps keep f (temporary_address f slots d) → Gives second slots (d + 1) limit f b → Brings bring f (temporary_address f slots d)
       → Gives (first ++ (keep ++ (second ++ (bring ++ operate op ∷ [])))) slots d limit f v
-  joined_runs op first keep second bring slots d limit f a b v fits_a fits_b means room within left kept right brought m zero_is frame mapped bound stands =
+  joined_runs op first keep second bring slots d limit f a b v fits_a fits_b means room within left kept right brought m zero_is frame mapped bound code_is =
       let size2 = length-append keep (second ++ (bring ++ operate op ∷ [])) in
       let size3 = length-append second (bring ++ operate op ∷ []) in
       let size4 = length-append bring (operate op ∷ []) in
       let size : length (first ++ (keep ++ (second ++ (bring ++ operate op ∷ [])))) ≡ length first + (length keep + (length second + (length bring + 1))) =
       omega (arith, length-append first (keep ++ (second ++ (bring ++ operate op ∷ []))), size2, size3, size4) in
-      let s1 = stands_front code m.counter first (keep ++ (second ++ (bring ++ operate op ∷ []))) stands in
-      let r1 = stands_back code m.counter first (keep ++ (second ++ (bring ++ operate op ∷ []))) stands in
+      let s1 = instructions_front code m.counter first (keep ++ (second ++ (bring ++ operate op ∷ []))) code_is in
+      let r1 = instructions_back code m.counter first (keep ++ (second ++ (bring ++ operate op ∷ []))) code_is in
       let one = left m zero_is frame mapped (omega (arith, bound, size)) s1 in
       let t1 = one.0 in
       let e1 = one.2 in
@@ -206,25 +206,25 @@ module _ (code : Code) where
       at : ℕ
       at = temporary_address f slots d
 
-      two : (t1 : Machine) → Evaluated slots d limit a (4 * length first) m t1 → ComesTo code (length first) m t1
+      two : (t1 : Machine) → Evaluates slots d limit a (4 * length first) m t1 → ComesTo code (length first) m t1
           → length whole ≡ length first + (length keep + (length second + (length bring + 1)))
           → length (keep ++ (second ++ (bring ++ operate op ∷ []))) ≡ length keep + length (second ++ (bring ++ operate op ∷ []))
           → length (second ++ (bring ++ operate op ∷ [])) ≡ length second + length (bring ++ operate op ∷ [])
           → length (bring ++ operate op ∷ []) ≡ length bring + 1
           → InstructionsAt code (m.counter + 4 * length first) (keep ++ (second ++ (bring ++ operate op ∷ [])))
-          → (t : Machine) × ComesTo code (length whole) m t × Evaluated slots d limit v (4 * length whole) m t
+          → (t : Machine) × ComesTo code (length whole) m t × Evaluates slots d limit v (4 * length whole) m t
       two t1 e1 c1 size size2 size3 size4 r1 =
-          let stands1 = subst (λ p. InstructionsAt code p (keep ++ (second ++ (bring ++ operate op ∷ [])))) (sym e1.counter) r1 in
-          let s2 = stands_front code t1.counter keep (second ++ (bring ++ operate op ∷ [])) stands1 in
-          let r2 = stands_back code t1.counter keep (second ++ (bring ++ operate op ∷ [])) stands1 in
+          let code_is1 = subst (λ p. InstructionsAt code p (keep ++ (second ++ (bring ++ operate op ∷ [])))) (sym e1.counter) r1 in
+          let s2 = instructions_front code t1.counter keep (second ++ (bring ++ operate op ∷ [])) code_is1 in
+          let r2 = instructions_back code t1.counter keep (second ++ (bring ++ operate op ∷ [])) code_is1 in
           let f1 : t1.registers reg.FP ≡ f = e1.kept reg.FP refl refl refl ∙ frame in
           let there = some_of (t1.words at) (e1.mapped at (subst (λ g. IsSome (m.words (temporary_address g slots d))) frame (mapped d (omega arith) within))) in
           let keeps = kept t1 there.0 f1 there.1 (omega (arith, bound, size, e1.counter)) s2 in
           let t2 = keeps.0 in
           let e2 = keeps.2 in
-          let stands2 = subst (λ p. InstructionsAt code p (second ++ (bring ++ operate op ∷ []))) (sym e2.counter) r2 in
-          let s3 = stands_front code t2.counter second (bring ++ operate op ∷ []) stands2 in
-          let r3 = stands_back code t2.counter second (bring ++ operate op ∷ []) stands2 in
+          let code_is2 = subst (λ p. InstructionsAt code p (second ++ (bring ++ operate op ∷ []))) (sym e2.counter) r2 in
+          let s3 = instructions_front code t2.counter second (bring ++ operate op ∷ []) code_is2 in
+          let r3 = instructions_back code t2.counter second (bring ++ operate op ∷ []) code_is2 in
           let f2 : t2.registers reg.FP ≡ f = e2.kept reg.FP refl ∙ f1 in
           let zero2 : t2.registers reg.ZERO ≡ 0 = e2.kept reg.ZERO refl ∙ e1.kept reg.ZERO refl refl refl ∙ zero_is in
           let mapped2 : AreMapped t2 slots (d + 1) limit = λ j low high.
@@ -237,14 +237,14 @@ module _ (code : Code) where
           let e3 = rights.2 in
           three t1 t2 t3 e1 e2 e3 c1 keeps.1 rights.1 size size4 f2 (subst (λ p. InstructionsAt code p (bring ++ operate op ∷ [])) (sym e3.counter) r3)
         where
-          three : (t1 t2 t3 : Machine) → Evaluated slots d limit a (4 * length first) m t1 → Puts at (t1.registers reg.VALUE) (4 * length keep) t1 t2 → Evaluated slots (d + 1) limit b (4 * length second) t2 t3
+          three : (t1 t2 t3 : Machine) → Evaluates slots d limit a (4 * length first) m t1 → Puts at (t1.registers reg.VALUE) (4 * length keep) t1 t2 → Evaluates slots (d + 1) limit b (4 * length second) t2 t3
               → ComesTo code (length first) m t1 → ComesTo code (length keep) t1 t2 → ComesTo code (length second) t2 t3
               → length whole ≡ length first + (length keep + (length second + (length bring + 1))) → length (bring ++ operate op ∷ []) ≡ length bring + 1
               → t2.registers reg.FP ≡ f → InstructionsAt code t3.counter (bring ++ operate op ∷ [])
-              → (t : Machine) × ComesTo code (length whole) m t × Evaluated slots d limit v (4 * length whole) m t
-          three t1 t2 t3 e1 e2 e3 c1 c2 c3 size size4 f2 stands3 =
-              let s4 = stands_front code t3.counter bring (operate op ∷ []) stands3 in
-              let r4 = stands_back code t3.counter bring (operate op ∷ []) stands3 in
+              → (t : Machine) × ComesTo code (length whole) m t × Evaluates slots d limit v (4 * length whole) m t
+          three t1 t2 t3 e1 e2 e3 c1 c2 c3 size size4 f2 code_is3 =
+              let s4 = instructions_front code t3.counter bring (operate op ∷ []) code_is3 in
+              let r4 = instructions_back code t3.counter bring (operate op ∷ []) code_is3 in
               let f3 : t3.registers reg.FP ≡ f = e3.kept reg.FP refl refl refl ∙ f2 in
               let apart : (j : ℕ) → d + 1 ≤ j → j < limit → at ≢ temporary_address (t2.registers reg.FP) slots j =
               λ j low high e. temporary_apart f slots limit d j room within high (omega (arith, low)) (e ∙ ap (λ g. temporary_address g slots j) f2) in
@@ -256,25 +256,25 @@ module _ (code : Code) where
               let five : t4.registers reg.VALUE ≡ cast_unsigned w32 b = e4.kept reg.VALUE refl ∙ e3.value in
               let s5 = subst (λ p. code p (operate op)) (sym e4.counter) r4.0 in
               let last = operate_runs code op a b v t4 fits_a fits_b means six five (omega (arith, bound, size, e1.counter, e2.counter, e3.counter, e4.counter)) s5 in
-              let done = joined_parts op first keep second bring slots d limit f a b v m t1 t2 t3 t4 last.0 frame room within c1 e1 c2 e2 c3 e3 brings.1 e4 last.1 last.2 whole size in
-              (last.0, done.0, done.1)
+              let parts_run = joined_parts op first keep second bring slots d limit f a b v m t1 t2 t3 t4 last.0 frame room within c1 e1 c2 e2 c3 e3 brings.1 e4 last.1 last.2 whole size in
+              (last.0, parts_run.0, parts_run.1)
 
   keeps_slot : (slots d limit f : ℕ) → HasRoom f slots limit → d < limit → Keeps (store_slot reg.VALUE (temporary slots d)) f (temporary_address f slots d)
-  keeps_slot slots d limit f room within n old frame there bound stands =
+  keeps_slot slots d limit f room within n old frame there bound code_is =
       store_slot_runs code reg.VALUE (temporary slots d) (temporary_address f slots d) old n refl (subst (λ g. g < 2 ^ 32) (sym frame) room.word)
-      (ap (λ g. offset g (temporary slots d)) frame ∙ temporary_place f slots limit d room within) (temporary_aligned f slots limit d room within) there bound stands
+      (ap (λ g. offset g (temporary slots d)) frame ∙ temporary_offset f slots limit d room within) (temporary_aligned f slots limit d room within) there bound code_is
 
   brings_slot : (slots d limit f : ℕ) → HasRoom f slots limit → d < limit → Brings (load_slot reg.LEFT (temporary slots d)) f (temporary_address f slots d)
-  brings_slot slots d limit f room within n w frame there bound stands =
+  brings_slot slots d limit f room within n w frame there bound code_is =
       load_slot_runs code reg.LEFT (temporary slots d) (temporary_address f slots d) w n refl refl (subst (λ g. g < 2 ^ 32) (sym frame) room.word)
-      (ap (λ g. offset g (temporary slots d)) frame ∙ temporary_place f slots limit d room within) (temporary_aligned f slots limit d room within) there bound stands
+      (ap (λ g. offset g (temporary slots d)) frame ∙ temporary_offset f slots limit d room within) (temporary_aligned f slots limit d room within) there bound code_is
 
   -- the code of an expression gives its value
   pub evaluate_runs : (slots : ℕ) (e : Expr ℕ) (d limit f : ℕ) (v : ℤ) → IsClosed e → value_of e ≡ Some v → temporaries e d ≤ limit → HasRoom f slots limit
       → Gives (evaluate slots e d) slots d limit f v
-  evaluate_runs slots (Number n) d limit f v closed means enough room = λ m zero_is frame mapped bound stands.
+  evaluate_runs slots (Number n) d limit f v closed means enough room = λ m zero_is frame mapped bound code_is.
       let same : n ≡ v = same_value n v means in
-      let set = load_number_runs code reg.VALUE n m refl zero_is closed.0 (omega arith) stands in (
+      let set = load_number_runs code reg.VALUE n m refl zero_is closed.0 (omega arith) code_is in (
         set.0,
         set.1,
         record {

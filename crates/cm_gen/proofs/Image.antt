@@ -18,16 +18,16 @@ use Rattle.cm_isa.proofs.Machine.{same_machine}
 use Rattle.cm_gen.proofs.Function.{same_registers}
 use Rattle.cm_gen.proofs.Program.{has_value, run_from}
 
--- the instructions stand in an image that has their words from some place on
-words_stand : (front words : List ℕ) (is : List Operation) → AreWordsOf words is → InstructionsAt (InstructionAt (front ++ words)) (4 * length front) is
-words_stand front [] [] h = tt
-words_stand front [] (i ∷ is) h = absurd h
-words_stand front (w ∷ ws) [] h = absurd h
-words_stand front (w ∷ ws) (i ∷ is) h =
-    let place : 4 * length front / 4 ≡ length front = omega arith in
-    let here : slice_index (front ++ w ∷ ws) (4 * length front / 4) ≡ w = ap (slice_index (front ++ w ∷ ws)) place ∙ get_or-append_seam front w ws 0 in
+-- the instructions are in an image that has their words from some address on
+words_are_instructions : (front words : List ℕ) (is : List Operation) → AreWordsOf words is → InstructionsAt (InstructionAt (front ++ words)) (4 * length front) is
+words_are_instructions front [] [] h = tt
+words_are_instructions front [] (i ∷ is) h = absurd h
+words_are_instructions front (w ∷ ws) [] h = absurd h
+words_are_instructions front (w ∷ ws) (i ∷ is) h =
+    let address : 4 * length front / 4 ≡ length front = omega arith in
+    let here : slice_index (front ++ w ∷ ws) (4 * length front / 4) ≡ w = ap (slice_index (front ++ w ∷ ws)) address ∙ get_or-append_seam front w ws 0 in
     let next : 4 * length (front ++ w ∷ []) ≡ 4 * length front + 4 = omega (arith, length-append front (w ∷ [])) in
-    let rest = words_stand (front ++ w ∷ []) ws is h.1 in
+    let rest = words_are_instructions (front ++ w ∷ []) ws is h.1 in
     let rest' = subst (λ l. InstructionsAt (InstructionAt l) (4 * length (front ++ w ∷ [])) is) (append_assoc front (w ∷ []) ws) rest in (
       (omega arith, omega (arith, length-append front (w ∷ ws)), subst (λ x. Row x i) (sym here) h.0),
       subst (λ p. InstructionsAt (InstructionAt (front ++ w ∷ ws)) p is) next rest',
@@ -40,7 +40,7 @@ runs_to image e closed few are =
       value.0,
       value.1,
       λ account ticks start enough most some fits begins.
-          let ran = run_from (InstructionAt image) account ticks e value.0 start.words closed few value.1 enough most some fits begins.mapped (words_stand [] image (first_code e) are) in
+          let ran = run_from (InstructionAt image) account ticks e value.0 start.words closed few value.1 enough most some fits begins.mapped (words_are_instructions [] image (first_code e) are) in
           let same : start ≡ record { registers = start_registers account ticks; counter = 8; words = start.words } =
           same_machine start _ (same_registers start.registers (start_registers account ticks) begins.registers) begins.counter refl in (
             ran.0,

@@ -1,4 +1,4 @@
--- What each pattern of the code does: the machine comes from the pattern's place to the place machine_after it.
+-- What each pattern of the code does: the machine comes from the pattern's address to the address after it.
 use Rattle.cm_isa.specs.declared.convention.TheConstants as reg
 use Rattle.std.proofs.Common.{◌≡◌, ℕ, ◌+◌, ◌*◌, ◌%◌, ◌^◌, ◌<◌, [], ◌∷◌, length, Option, None, Some, refl, sym, ap, ◌∙◌, subst, arith}
 use Rattle.std.proofs.lemmas.Option.{none-some}
@@ -18,7 +18,7 @@ use Rattle.cm_gen.specs.Code.{is_near, low_part, high_part, load_number, load_sl
 use Rattle.cm_gen.proofs.WordLaw as words
 use Rattle.cm_gen.proofs.Step.{comes_by_one, comes_on, follow_is, with_register_same, with_register_other, load_word, store_word}
 
--- the machine t is at the place `bytes` further, register r has the word v, and all else is as in m
+-- the machine t is at an address `bytes` further, register r has the word v, and all else is as in m
 pub record Sets (r v bytes : ℕ) (m t : Machine) : Type 0 where
   pub counter : t.counter ≡ m.counter + bytes
   pub value : t.registers r ≡ v
@@ -39,10 +39,10 @@ module _ (code : Code) where
   pub sets_by_one : (i : Operation) (r v : ℕ) (m : Machine) → (r == reg.ZERO) ≡ false → m.counter + 4 < 2 ^ 32 → code m.counter i
       → machine_after i m ≡ Some (machine_with m (with_register m.registers r v) (follow m.counter))
       → (t : Machine) × ComesTo code 1 m t × Sets r v 4 m t
-  sets_by_one i r v m nonzero room stands effect =
+  sets_by_one i r v m nonzero room code_is effect =
       let t = machine_with m (with_register m.registers r v) (follow m.counter) in (
         t,
-        comes_by_one code i m t stands effect,
+        comes_by_one code i m t code_is effect,
         record {
           counter = follow_is m.counter room;
           value = with_register_same m.registers r v nonzero;
@@ -56,8 +56,8 @@ module _ (code : Code) where
       → machine_after i m ≡ Some (machine_with m (with_register m.registers r u) (follow m.counter))
       → ((t : Machine) → Sets r u 4 m t → machine_after j t ≡ Some (machine_with t (with_register t.registers r v) (follow t.counter)))
       → (t : Machine) × ComesTo code 2 m t × Sets r v 8 m t
-  sets_by_two i j r u v m nonzero room stands next effect then_effect =
-      let first = sets_by_one i r u m nonzero (omega arith) stands effect in
+  sets_by_two i j r u v m nonzero room code_is next effect then_effect =
+      let first = sets_by_one i r u m nonzero (omega arith) code_is effect in
       let t = first.0 in
       let does = first.2 in
       let room' : t.counter + 4 < 2 ^ 32 = omega (arith, does.counter) in
@@ -77,25 +77,25 @@ module _ (code : Code) where
       → InstructionsAt code m.counter (if near then addi r reg.ZERO n ∷ [] else lui r (high_part n) ∷ addi r r (low_part n) ∷ [])
       → let size = length (if near then addi r reg.ZERO n ∷ [] else lui r (high_part n) ∷ addi r r (low_part n) ∷ []) in
       (t : Machine) × ComesTo code size m t × Sets r (cast_unsigned w32 n) (4 * size) m t
-  load_number_by true r n m nonzero zero_is fits room stands =
+  load_number_by true r n m nonzero zero_is fits room code_is =
       let bits = cast_unsigned w32 n in
       let value : word (int (m.registers reg.ZERO) +ℤ int bits) ≡ bits =
       rw zero_is (words.word-add 0 bits (omega arith) (words.cast_unsigned_below n fits) ∙ (let below = words.cast_unsigned_below n fits in omega arith)) in
-      sets_by_one (addi r reg.ZERO n) r bits m nonzero (omega arith) stands.0 (ap (λ v. Some (machine_with m (with_register m.registers r v) (follow m.counter))) value)
-  load_number_by false r n m nonzero zero_is fits room stands =
+      sets_by_one (addi r reg.ZERO n) r bits m nonzero (omega arith) code_is.0 (ap (λ v. Some (machine_with m (with_register m.registers r v) (follow m.counter))) value)
+  load_number_by false r n m nonzero zero_is fits room code_is =
       let upper = cast_unsigned w32 (high_part n) in
       let lower = cast_unsigned w32 (low_part n) in
       let value : word (int upper +ℤ int lower) ≡ cast_unsigned w32 n =
       rw (words.int-cast_unsigned (high_part n) (words.wrapped_fits _), words.int-cast_unsigned (low_part n) (words.low_part_fits n)) (words.word-parts n ∙ words.word-fits n fits) in
-      sets_by_two (lui r (high_part n)) (addi r r (low_part n)) r upper (cast_unsigned w32 n) m nonzero room stands.0 stands.1.0 refl
+      sets_by_two (lui r (high_part n)) (addi r r (low_part n)) r upper (cast_unsigned w32 n) m nonzero room code_is.0 code_is.1.0 refl
       (λ t does. ap (λ v. Some (machine_with t (with_register t.registers r v) (follow t.counter))) (ap (λ u. word (int u +ℤ int lower)) does.value ∙ value))
 
   pub load_number_runs : (r : ℕ) (n : ℤ) (m : Machine) → (r == reg.ZERO) ≡ false → m.registers reg.ZERO ≡ 0 → FitsSigned w32 n → m.counter + 8 < 2 ^ 32
       → InstructionsAt code m.counter (load_number r n)
       → (t : Machine) × ComesTo code (length (load_number r n)) m t × Sets r (cast_unsigned w32 n) (4 * length (load_number r n)) m t
-  load_number_runs r n m nonzero zero_is fits room stands = load_number_by (is_near n) r n m nonzero zero_is fits room stands
+  load_number_runs r n m nonzero zero_is fits room code_is = load_number_by (is_near n) r n m nonzero zero_is fits room code_is
 
-  -- the place after two instructions
+  -- the address after two instructions
   second_next : (i : Operation) (p : ℕ) → code (p + 4 + 4) i → code (p + 8) i
   second_next i p h = let e : p + 4 + 4 ≡ p + 8 = omega arith in subst (λ n. code n i) e h
 
@@ -104,10 +104,10 @@ module _ (code : Code) where
       → code m.counter (lui r (high_part o)) → code (m.counter + 4) (add r r reg.FP)
       → (t : Machine) × ComesTo code 2 m t × Sets r (word (int (cast_unsigned w32 (high_part o)) +ℤ int (m.registers reg.FP))) 8 m t
       × (offset (t.registers r) (low_part o) ≡ offset (m.registers reg.FP) o)
-  far_base r o m nonzero other frame room stands next =
+  far_base r o m nonzero other frame room code_is next =
       let upper = cast_unsigned w32 (high_part o) in
       let base = word (int upper +ℤ int (m.registers reg.FP)) in
-      let two = sets_by_two (lui r (high_part o)) (add r r reg.FP) r upper base m nonzero room stands next refl
+      let two = sets_by_two (lui r (high_part o)) (add r r reg.FP) r upper base m nonzero room code_is next refl
       (λ t does. ap (λ v. Some (machine_with t (with_register t.registers r v) (follow t.counter))) (ap (λ u. word (int u +ℤ int (t.registers reg.FP))) does.value ∙ ap (λ u. word (int upper +ℤ int u)) (does.kept reg.FP other))) in
       (two.0, two.1, two.2, ap (λ u. offset u (low_part o)) two.2.value ∙ words.far_offset o (m.registers reg.FP) frame)
 
@@ -117,33 +117,33 @@ module _ (code : Code) where
       → InstructionsAt code m.counter (if near then sw r reg.FP o ∷ [] else lui reg.HELP (high_part o) ∷ add reg.HELP reg.HELP reg.FP ∷ sw r reg.HELP (low_part o) ∷ [])
       → let size = length (if near then sw r reg.FP o ∷ [] else lui reg.HELP (high_part o) ∷ add reg.HELP reg.HELP reg.FP ∷ sw r reg.HELP (low_part o) ∷ []) in
       (t : Machine) × ComesTo code size m t × Puts a (m.registers r) (4 * size) m t
-  store_slot_by true r o a old m other frame place aligned there room stands =
+  store_slot_by true r o a old m other frame address aligned there room code_is =
       let v = m.registers r in
       let t : Machine = record { registers = m.registers; counter = follow m.counter; words = with_word m.words a v } in
-      let effect : machine_after (sw r reg.FP o) m ≡ Some t = rw place (store_word 0 a v old m aligned there) in (
+      let effect : machine_after (sw r reg.FP o) m ≡ Some t = rw address (store_word 0 a v old m aligned there) in (
         t,
-        comes_by_one code (sw r reg.FP o) m t stands.0 effect,
+        comes_by_one code (sw r reg.FP o) m t code_is.0 effect,
         record {
           counter = follow_is m.counter (omega arith);
           kept = λ q h. refl;
           words = refl;
         },
       )
-  store_slot_by false r o a old m other frame place aligned there room stands =
+  store_slot_by false r o a old m other frame address aligned there room code_is =
       let upper = cast_unsigned w32 (high_part o) in
       let base = word (int upper +ℤ int (m.registers reg.FP)) in
-      let two = far_base reg.HELP o m refl refl frame (omega arith) stands.0 stands.1.0 in
+      let two = far_base reg.HELP o m refl refl frame (omega arith) code_is.0 code_is.1.0 in
       let s = two.0 in
       let does = two.2 in
       let v = m.registers r in
       let t : Machine = record { registers = s.registers; counter = follow s.counter; words = with_word s.words a v } in
-      let at : offset (s.registers reg.HELP) (low_part o) ≡ a = two.3 ∙ place in
+      let at : offset (s.registers reg.HELP) (low_part o) ≡ a = two.3 ∙ address in
       let same : s.registers r ≡ v = does.kept r other in
       let here : s.words a ≡ Some old = ap (λ w. w a) does.words ∙ there in
       let effect : machine_after (sw r reg.HELP (low_part o)) s ≡ Some t = rw (at, same) (store_word 0 a v old s aligned here) in
-      let stands' = subst (λ p. code p (sw r reg.HELP (low_part o))) (sym does.counter) (second_next (sw r reg.HELP (low_part o)) m.counter stands.1.1.0) in (
+      let code_is' = subst (λ p. code p (sw r reg.HELP (low_part o))) (sym does.counter) (second_next (sw r reg.HELP (low_part o)) m.counter code_is.1.1.0) in (
         t,
-        comes_on code 2 1 m s t two.1 (comes_by_one code (sw r reg.HELP (low_part o)) s t stands' effect),
+        comes_on code 2 1 m s t two.1 (comes_by_one code (sw r reg.HELP (low_part o)) s t code_is' effect),
         record {
           counter = omega (arith, follow_is s.counter (omega (arith, does.counter)), does.counter);
           kept = λ q h. does.kept q h;
@@ -155,7 +155,7 @@ module _ (code : Code) where
       → offset (m.registers reg.FP) o ≡ a → a % 4 ≡ 0 → m.words a ≡ Some old → m.counter + 12 < 2 ^ 32
       → InstructionsAt code m.counter (store_slot r o)
       → (t : Machine) × ComesTo code (length (store_slot r o)) m t × Puts a (m.registers r) (4 * length (store_slot r o)) m t
-  store_slot_runs r o a old m other frame place aligned there room stands = store_slot_by (is_near o) r o a old m other frame place aligned there room stands
+  store_slot_runs r o a old m other frame address aligned there room code_is = store_slot_by (is_near o) r o a old m other frame address aligned there room code_is
 
   -- an offset from the frame pointer, in a register
   load_slot_by : (near : Bool) (r : ℕ) (o : ℤ) (a v : ℕ) (m : Machine) → (r == reg.ZERO) ≡ false → (reg.FP == r) ≡ false → m.registers reg.FP < 2 ^ 32
@@ -163,17 +163,17 @@ module _ (code : Code) where
       → InstructionsAt code m.counter (if near then lw r reg.FP o ∷ [] else lui r (high_part o) ∷ add r r reg.FP ∷ lw r r (low_part o) ∷ [])
       → let size = length (if near then lw r reg.FP o ∷ [] else lui r (high_part o) ∷ add r r reg.FP ∷ lw r r (low_part o) ∷ []) in
       (t : Machine) × ComesTo code size m t × Sets r v (4 * size) m t
-  load_slot_by true r o a v m nonzero other frame place aligned there room stands =
-      sets_by_one (lw r reg.FP o) r v m nonzero (omega arith) stands.0 (rw place (load_word r a v m aligned there))
-  load_slot_by false r o a v m nonzero other frame place aligned there room stands =
-      let two = far_base r o m nonzero other frame (omega arith) stands.0 stands.1.0 in
+  load_slot_by true r o a v m nonzero other frame address aligned there room code_is =
+      sets_by_one (lw r reg.FP o) r v m nonzero (omega arith) code_is.0 (rw address (load_word r a v m aligned there))
+  load_slot_by false r o a v m nonzero other frame address aligned there room code_is =
+      let two = far_base r o m nonzero other frame (omega arith) code_is.0 code_is.1.0 in
       let s = two.0 in
       let does = two.2 in
-      let at : offset (s.registers r) (low_part o) ≡ a = two.3 ∙ place in
+      let at : offset (s.registers r) (low_part o) ≡ a = two.3 ∙ address in
       let here : s.words a ≡ Some v = ap (λ w. w a) does.words ∙ there in
-      let stands' = subst (λ p. code p (lw r r (low_part o))) (sym does.counter) (second_next (lw r r (low_part o)) m.counter stands.1.1.0) in
+      let code_is' = subst (λ p. code p (lw r r (low_part o))) (sym does.counter) (second_next (lw r r (low_part o)) m.counter code_is.1.1.0) in
       let room' : s.counter + 4 < 2 ^ 32 = omega (arith, does.counter) in
-      let last = sets_by_one (lw r r (low_part o)) r v s nonzero room' stands' (rw at (load_word r a v s aligned here)) in (
+      let last = sets_by_one (lw r r (low_part o)) r v s nonzero room' code_is' (rw at (load_word r a v s aligned here)) in (
         last.0,
         comes_on code 2 1 m s last.0 two.1 last.1,
         record {
@@ -188,14 +188,14 @@ module _ (code : Code) where
       → offset (m.registers reg.FP) o ≡ a → a % 4 ≡ 0 → m.words a ≡ Some v → m.counter + 12 < 2 ^ 32
       → InstructionsAt code m.counter (load_slot r o)
       → (t : Machine) × ComesTo code (length (load_slot r o)) m t × Sets r v (4 * length (load_slot r o)) m t
-  load_slot_runs r o a v m nonzero other frame place aligned there room stands = load_slot_by (is_near o) r o a v m nonzero other frame place aligned there room stands
+  load_slot_runs r o a v m nonzero other frame address aligned there room code_is = load_slot_by (is_near o) r o a v m nonzero other frame address aligned there room code_is
 
   -- an operator of two words, its left one in x6 and its right one in x5
   pub operate_runs : (op : Op) (left right value : ℤ) (m : Machine) → FitsSigned w32 left → FitsSigned w32 right → apply_operator op left right ≡ Some value
       → m.registers reg.LEFT ≡ cast_unsigned w32 left → m.registers reg.VALUE ≡ cast_unsigned w32 right → m.counter + 4 < 2 ^ 32 → code m.counter (operate op)
       → (t : Machine) × ComesTo code 1 m t × Sets reg.VALUE (cast_unsigned w32 value) 4 m t
-  operate_runs op left right value m fits_left fits_right means six five room stands =
-      sets_by_one (operate op) 5 (cast_unsigned w32 value) m refl room stands (operated op means)
+  operate_runs op left right value m fits_left fits_right means six five room code_is =
+      sets_by_one (operate op) 5 (cast_unsigned w32 value) m refl room code_is (operated op means)
     where
       joined : (f : ℤ → ℤ → ℤ) → Some (wrap (f left right)) ≡ Some value → word (f (int (m.registers reg.LEFT)) (int (m.registers reg.VALUE))) ≡ cast_unsigned w32 value
       joined f e =

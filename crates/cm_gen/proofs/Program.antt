@@ -22,9 +22,9 @@ use Rattle.cm_gen.specs.Assembler.{lui, addi, add, sub, lw, sw, jal, jalr, bgeu}
 use Rattle.cm_gen.specs.Code.{is_near, high_part, low_part, load_number, load_slot, store_slot, operate, evaluate, temporary, service, tick, take_account, make_frame, entry, leave, frame_bytes, first_code}
 use Rattle.cm_gen.specs.Run.{stack_top, start_registers}
 use Rattle.cm_gen.proofs.WordLaw as words
-use Rattle.cm_gen.proofs.Step.{comes_by_one, comes_on, stands_front, stands_back}
+use Rattle.cm_gen.proofs.Step.{comes_by_one, comes_on, instructions_front, instructions_back}
 use Rattle.cm_gen.proofs.Tree.{temporaries-Joined}
-use Rattle.cm_gen.proofs.Expression.{with_word_mapped, value_fits, HasRoom, AreMapped, temporary_address, Evaluated, evaluate_runs}
+use Rattle.cm_gen.proofs.Expression.{with_word_mapped, value_fits, HasRoom, AreMapped, temporary_address, Evaluates, evaluate_runs}
 use Rattle.cm_gen.proofs.Function.{IsFrameBelow, framed_registers, framed_words, left_registers, set_at, number_at, tick_runs, account_runs, frame_by, leave_by}
 
 -- ---- sizes
@@ -91,10 +91,10 @@ has_value _ closed = absurd closed
 abbrev entered_registers : (account ticks b : ℕ) → ℕ → ℕ
 entered_registers account ticks b = with_register (with_register (with_register (start_registers account ticks) reg.TICKS (ticks - 1)) reg.HELP b) reg.ACCOUNT (account - b)
 
-abbrev entered : (account ticks b place : ℕ) → (ℕ → Option ℕ) → Machine
-entered account ticks b place w = record {
+abbrev entered_machine : (account ticks b address : ℕ) → (ℕ → Option ℕ) → Machine
+entered_machine account ticks b address w = record {
   registers = framed_registers b (entered_registers account ticks b);
-  counter = place;
+  counter = address;
   words = framed_words b (entered_registers account ticks b) w;
 }
 
@@ -104,9 +104,9 @@ module _ (code : Code) where
       → code 8 (jal reg.ZERO (pos 4)) → InstructionsAt code 12 (entry b b)
       → let size = length (load_number reg.HELP (pos b)) in
       ComesTo code (1 + (2 + ((size + 2) + (size + 6)))) (record { registers = start_registers account ticks; counter = 8; words = w })
-      (entered account ticks b (68 + 8 * size) w)
-  entry_runs account ticks b w frame enough most some fits table stands =
-      subst (λ c. ComesTo code (1 + (2 + ((length number + 2) + (length number + 6)))) m0 (entered account ticks b c w)) last_place
+      (entered_machine account ticks b (68 + 8 * size) w)
+  entry_runs account ticks b w frame enough most some fits table code_is =
+      subst (λ c. ComesTo code (1 + (2 + ((length number + 2) + (length number + 6)))) m0 (entered_machine account ticks b c w)) last_address
       (comes_on code 1 (2 + ((length number + 2) + (length number + 6))) m0 m1 _ called
       (comes_on code 2 ((length number + 2) + (length number + 6)) m1 m2 _ ticked
       (comes_on code (length number + 2) (length number + 6) m2 m3 _ accounted framed)))
@@ -144,50 +144,50 @@ module _ (code : Code) where
       short : length number ≤ 2
       short = short_number reg.HELP (pos b)
 
-      stands1 : InstructionsAt code 28 (take_account b ++ make_frame b)
-      stands1 = stands_back code 12 tick (take_account b ++ make_frame b) stands
+      code_is1 : InstructionsAt code 28 (take_account b ++ make_frame b)
+      code_is1 = instructions_back code 12 tick (take_account b ++ make_frame b) code_is
 
-      stands2 : InstructionsAt code 28 (number ++ middle)
-      stands2 = stands_front code 28 (take_account b) (make_frame b) stands1
+      code_is2 : InstructionsAt code 28 (number ++ middle)
+      code_is2 = instructions_front code 28 (take_account b) (make_frame b) code_is1
 
-      test_stands : InstructionsAt code (28 + 4 * length number) middle
-      test_stands = stands_back code 28 number middle stands2
+      test_there : InstructionsAt code (28 + 4 * length number) middle
+      test_there = instructions_back code 28 number middle code_is2
 
-      sub_place : 28 + 4 * length number + 4 + 4 + 4 ≡ 28 + 4 * length number + 12
-      sub_place = omega arith
+      sub_address : 28 + 4 * length number + 4 + 4 + 4 ≡ 28 + 4 * length number + 12
+      sub_address = omega arith
 
-      tail_place : 28 + 4 * length (take_account b) ≡ 28 + 4 * length number + 16
-      tail_place = omega (arith, length-append number middle)
+      tail_address : 28 + 4 * length (take_account b) ≡ 28 + 4 * length number + 16
+      tail_address = omega (arith, length-append number middle)
 
-      stands3 : InstructionsAt code (28 + 4 * length number + 16) (number ++ tail)
-      stands3 = subst (λ p. InstructionsAt code p (number ++ tail)) tail_place (stands_back code 28 (take_account b) (make_frame b) stands1)
+      code_is3 : InstructionsAt code (28 + 4 * length number + 16) (number ++ tail)
+      code_is3 = subst (λ p. InstructionsAt code p (number ++ tail)) tail_address (instructions_back code 28 (take_account b) (make_frame b) code_is1)
 
-      last_place : 28 + 4 * length number + 16 + 4 * length number + 24 ≡ 68 + 8 * length number
-      last_place = omega arith
+      last_address : 28 + 4 * length number + 16 + 4 * length number + 24 ≡ 68 + 8 * length number
+      last_address = omega arith
 
       called : ComesTo code 1 m0 m1
       called = comes_by_one code (jal reg.ZERO (pos 4)) m0 m1 table refl
 
       ticked : ComesTo code 2 m1 m2
-      ticked = tick_runs code 12 m1 refl (λ e. omega (arith, e)) fits refl refl (omega arith) (stands_front code 12 tick (take_account b ++ make_frame b) stands)
+      ticked = tick_runs code 12 m1 refl (λ e. omega (arith, e)) fits refl refl (omega arith) (instructions_front code 12 tick (take_account b ++ make_frame b) code_is)
 
       accounted : ComesTo code (length number + 2) m2 m3
-      accounted = account_runs code b 28 m2 refl (omega arith) enough frame.small refl refl (omega (arith, short)) (stands_front code 28 number middle stands2) test_stands.0
-          (subst (λ p. code p (sub reg.ACCOUNT reg.ACCOUNT reg.HELP)) sub_place test_stands.1.1.1.0)
+      accounted = account_runs code b 28 m2 refl (omega arith) enough frame.small refl refl (omega (arith, short)) (instructions_front code 28 number middle code_is2) test_there.0
+          (subst (λ p. code p (sub reg.ACCOUNT reg.ACCOUNT reg.HELP)) sub_address test_there.1.1.1.0)
 
-      framed : ComesTo code (length number + 6) m3 (entered account ticks b (28 + 4 * length number + 16 + 4 * length number + 24) w)
+      framed : ComesTo code (length number + 6) m3 (entered_machine account ticks b (28 + 4 * length number + 16 + 4 * length number + 24) w)
       framed = frame_by code b (28 + 4 * length number + 16 + 4 * length number) r2 w m3 (length number) refl frame (omega (arith, short))
-          (stands_back code (28 + 4 * length number + 16) number tail stands3)
-          (number_at code reg.HELP b (28 + 4 * length number + 16) m3 refl refl frame.small refl (omega (arith, short)) (stands_front code (28 + 4 * length number + 16) number tail stands3))
+          (instructions_back code (28 + 4 * length number + 16) number tail code_is3)
+          (number_at code reg.HELP b (28 + 4 * length number + 16) m3 refl refl frame.small refl (omega (arith, short)) (instructions_front code (28 + 4 * length number + 16) number tail code_is3))
 
   -- from the end of main's expression to the end service
-  leave_runs : (account b place : ℕ) (m t : Machine) (v : ℤ) (steps : ℕ) → ComesTo code steps m t → t.counter ≡ place → place % 4 ≡ 0 → place + 64 < 2 ^ 32
+  leave_runs : (account b address : ℕ) (m t : Machine) (v : ℤ) (steps : ℕ) → ComesTo code steps m t → t.counter ≡ address → address % 4 ≡ 0 → address + 64 < 2 ^ 32
       → b < 2 ^ 31 → b ≤ account → account ≤ stack_top
       → t.registers reg.ZERO ≡ 0 → t.registers reg.ACCOUNT ≡ account - b → t.registers reg.FP ≡ stack_top → t.registers reg.VALUE ≡ cast_unsigned w32 v → FitsSigned w32 v
       → t.words (stack_top - 4) ≡ Some 0 → t.words (stack_top - 8) ≡ Some 0
-      → InstructionsAt code place (jal reg.ZERO (pos 8) ∷ addi reg.VALUE reg.ZERO (pos 0) ∷ leave b) → code 0 (addi reg.SERVICE reg.ZERO (pos 0))
+      → InstructionsAt code address (jal reg.ZERO (pos 8) ∷ addi reg.VALUE reg.ZERO (pos 0) ∷ leave b) → code 0 (addi reg.SERVICE reg.ZERO (pos 0))
       → (last : Machine) × ComesTo code (steps + (1 + ((length (load_number reg.HELP (pos b)) + 6) + 1))) m last × (last.counter ≡ 4) × (last.registers reg.SERVICE ≡ 0) × (last.registers reg.VALUE ≡ cast_unsigned w32 v)
-  leave_runs account b place m t v steps came here aligned room small enough most zero_is account_is frame value fits back pointer stands service_is =
+  leave_runs account b address m t v steps came here aligned room small enough most zero_is account_is frame value fits back pointer code_is service_is =
       (m4, comes_on code steps (1 + ((length number + 6) + 1)) m t m4 came (comes_on code 1 ((length number + 6) + 1) t m1 m4 jumped (comes_on code (length number + 6) 1 m1 m3 m4 left served)), refl, refl, value)
     where
       r : ℕ → ℕ
@@ -203,7 +203,7 @@ module _ (code : Code) where
       short = short_number reg.HELP (pos b)
 
       m1 : Machine
-      m1 = record { registers = r; counter = place + 8; words = t.words }
+      m1 = record { registers = r; counter = address + 8; words = t.words }
 
       m3 : Machine
       m3 = record { registers = left_registers b 0 0 r; counter = 0; words = t.words }
@@ -211,29 +211,29 @@ module _ (code : Code) where
       m4 : Machine
       m4 = record { registers = with_register (left_registers b 0 0 r) reg.SERVICE 0; counter = 4; words = t.words }
 
-      target : offset t.counter (pos 8) ≡ place + 8
-      target = ap (λ c. offset c (pos 8)) here ∙ words.offset_up place 8 (omega arith)
+      target : offset t.counter (pos 8) ≡ address + 8
+      target = ap (λ c. offset c (pos 8)) here ∙ words.offset_up address 8 (omega arith)
 
-      target_4 : (place + 8) % 4 ≡ 0
+      target_4 : (address + 8) % 4 ≡ 0
       target_4 = omega arith
 
       jumped : ComesTo code 1 t m1
-      jumped = comes_by_one code (jal reg.ZERO (pos 8)) t m1 (subst (λ p. code p (jal reg.ZERO (pos 8))) (sym here) stands.0) (rw (target, target_4) refl)
+      jumped = comes_by_one code (jal reg.ZERO (pos 8)) t m1 (subst (λ p. code p (jal reg.ZERO (pos 8))) (sym here) code_is.0) (rw (target, target_4) refl)
 
-      body_place : place + 4 + 4 ≡ place + 8
-      body_place = omega arith
+      body_address : address + 4 + 4 ≡ address + 8
+      body_address = omega arith
 
-      stands2 : InstructionsAt code (place + 8) (number ++ six)
-      stands2 = subst (λ p. InstructionsAt code p (number ++ six)) body_place stands.1.1
+      code_is2 : InstructionsAt code (address + 8) (number ++ six)
+      code_is2 = subst (λ p. InstructionsAt code p (number ++ six)) body_address code_is.1.1
 
       below : cast_unsigned w32 v < 2 ^ 32
       below = words.cast_unsigned_below v fits
 
       left : ComesTo code (length number + 6) m1 m3
-      left = leave_by code b (place + 8 + 4 * length number) 0 0 r t.words m1 (length number) (omega (arith, frame)) (omega (arith, frame)) (omega (arith, frame)) (omega (arith, value, below)) (omega (arith, account_is))
+      left = leave_by code b (address + 8 + 4 * length number) 0 0 r t.words m1 (length number) (omega (arith, frame)) (omega (arith, frame)) (omega (arith, frame)) (omega (arith, value, below)) (omega (arith, account_is))
           (ap (λ f. t.words (f - 4)) frame ∙ back) (ap (λ f. t.words (f - 8)) frame ∙ pointer) refl (omega arith) (omega (arith, short))
-          (stands_back code (place + 8) number six stands2)
-          (number_at code reg.HELP b (place + 8) m1 refl zero_is small refl (omega arith) (stands_front code (place + 8) number six stands2))
+          (instructions_back code (address + 8) number six code_is2)
+          (number_at code reg.HELP b (address + 8) m1 refl zero_is small refl (omega arith) (instructions_front code (address + 8) number six code_is2))
 
       served : ComesTo code 1 m3 m4
       served = set_at code (addi reg.SERVICE reg.ZERO (pos 0)) reg.SERVICE 0 0 m3 refl (omega arith) service_is (ap (λ z. Some (machine_with m3 (with_register m3.registers reg.SERVICE (word (int z +ℤ int (cast_unsigned w32 (pos 0))))) (follow 0))) zero_is)
@@ -245,8 +245,8 @@ module _ (code : Code) where
       → InstructionsAt code 0 (first_code e)
       → (steps : ℕ) × (steps < 2 ^ 30) × (last : Machine) × ComesTo code steps (record { registers = start_registers account ticks; counter = 8; words = w }) last
       × code last.counter ecall × (last.registers reg.SERVICE ≡ 0) × (last.registers reg.VALUE ≡ cast_unsigned w32 v)
-  run_from account ticks e v w closed few means enough most some fits mapped stands =
-      (steps + (1 + ((size + 6) + 1)), omega (arith, short, small_code), done.0, done.1, subst (λ p. code p ecall) (sym done.2) stands.1.0, done.3, done.4)
+  run_from account ticks e v w closed few means enough most some fits mapped code_is =
+      (steps + (1 + ((size + 6) + 1)), omega (arith, short, small_code), leaves.0, leaves.1, subst (λ p. code p ecall) (sym leaves.2) code_is.1.0, leaves.3, leaves.4)
     where
       b : ℕ
       b = frame_bytes e
@@ -295,14 +295,14 @@ module _ (code : Code) where
       body : List Operation
       body = part ++ after_jump
 
-      main_stands : InstructionsAt code 12 (entry b b ++ body)
-      main_stands = stands.1.1.1
+      main_there : InstructionsAt code 12 (entry b b ++ body)
+      main_there = code_is.1.1.1
 
       start : Machine
       start = record { registers = start_registers account ticks; counter = 8; words = w }
 
       in_main : Machine
-      in_main = entered account ticks b (68 + 8 * size) w
+      in_main = entered_machine account ticks b (68 + 8 * size) w
 
       entry_size : 12 + 4 * length (entry b b) ≡ 68 + 8 * size
       entry_size = omega (
@@ -312,11 +312,11 @@ module _ (code : Code) where
         length-append (load_number reg.HELP (pos b)) (sub reg.SP reg.SP reg.HELP ∷ sw reg.ZERO reg.SP (pos 0) ∷ add reg.HELP reg.SP reg.HELP ∷ sw reg.RA reg.HELP (minus 4) ∷ sw reg.FP reg.HELP (minus 8) ∷ addi reg.FP reg.HELP (pos 0) ∷ []),
       )
 
-      body_stands : InstructionsAt code (68 + 8 * size) body
-      body_stands = subst (λ p. InstructionsAt code p body) entry_size (stands_back code 12 (entry b b) body main_stands)
+      body_there : InstructionsAt code (68 + 8 * size) body
+      body_there = subst (λ p. InstructionsAt code p body) entry_size (instructions_back code 12 (entry b b) body main_there)
 
       entered_by : ComesTo code (1 + (2 + ((size + 2) + (size + 6)))) start in_main
-      entered_by = entry_runs account ticks b w frame enough most some fits stands.1.1.0 (stands_front code 12 (entry b b) body main_stands)
+      entered_by = entry_runs account ticks b w frame enough most some fits code_is.1.1.0 (instructions_front code 12 (entry b b) body main_there)
 
       still_mapped : AreMapped in_main 0 0 limit
       still_mapped = λ j low high.
@@ -330,13 +330,13 @@ module _ (code : Code) where
       room : HasRoom stack_top 0 limit
       room = record { aligned = refl; word = omega arith; below = omega (arith, low_limit) }
 
-      evaluated : (t : Machine) × ComesTo code (length part) in_main t × Evaluated 0 0 limit v (4 * length part) in_main t
-      evaluated = evaluate_runs code 0 e 0 limit stack_top v closed means (omega arith) room in_main refl refl still_mapped (omega (arith, short, small_code)) (stands_front code (68 + 8 * size) part after_jump body_stands)
+      evaluated : (t : Machine) × ComesTo code (length part) in_main t × Evaluates 0 0 limit v (4 * length part) in_main t
+      evaluated = evaluate_runs code 0 e 0 limit stack_top v closed means (omega arith) room in_main refl refl still_mapped (omega (arith, short, small_code)) (instructions_front code (68 + 8 * size) part after_jump body_there)
 
       t : Machine
       t = evaluated.0
 
-      does : Evaluated 0 0 limit v (4 * length part) in_main t
+      does : Evaluates 0 0 limit v (4 * length part) in_main t
       does = evaluated.2
 
       steps : ℕ
@@ -345,8 +345,8 @@ module _ (code : Code) where
       came : ComesTo code steps start t
       came = comes_on code (1 + (2 + ((size + 2) + (size + 6)))) (length part) start in_main t entered_by evaluated.1
 
-      done : (last : Machine) × ComesTo code (steps + (1 + ((size + 6) + 1))) start last × (last.counter ≡ 4) × (last.registers reg.SERVICE ≡ 0) × (last.registers reg.VALUE ≡ cast_unsigned w32 v)
-      done = leave_runs account b (68 + 8 * size + 4 * length part) start t v steps came does.counter (omega arith) (omega (arith, short, small_code)) frame.small enough most
+      leaves : (last : Machine) × ComesTo code (steps + (1 + ((size + 6) + 1))) start last × (last.counter ≡ 4) × (last.registers reg.SERVICE ≡ 0) × (last.registers reg.VALUE ≡ cast_unsigned w32 v)
+      leaves = leave_runs account b (68 + 8 * size + 4 * length part) start t v steps came does.counter (omega arith) (omega (arith, short, small_code)) frame.small enough most
           (does.kept reg.ZERO refl refl refl) (does.kept reg.ACCOUNT refl refl refl) (does.kept reg.FP refl refl refl) does.value (value_fits e v closed means)
           (does.words (stack_top - 4) (λ j low high e. omega (arith, low_limit, high, e))) (does.words (stack_top - 8) (λ j low high e. omega (arith, low_limit, high, e)))
-          (stands_back code (68 + 8 * size) part after_jump body_stands) stands.0
+          (instructions_back code (68 + 8 * size) part after_jump body_there) code_is.0

@@ -10,14 +10,14 @@ use Rattle.cm_isa.specs.Machine.{Machine, Code, InstructionsAt, machine_after, a
 use Rattle.cm_isa.specs.Run.{ComesTo}
 use Rattle.cm_isa.specs.Register.{with_register}
 
--- the next instruction's place, where it doesn't wrap
+-- the next instruction's address, where it doesn't wrap
 pub follow_is : (p : ℕ) → p + 4 < 2 ^ 32 → follow p ≡ p + 4
 follow_is p h = omega arith
 
 module _ (code : Code) where
   -- one step
   pub comes_by_one : (i : Operation) (m next : Machine) → code m.counter i → machine_after i m ≡ Some next → ComesTo code 1 m next
-  comes_by_one i m next stands effect = (next, record { instruction = i; there = stands; effect = effect }, refl)
+  comes_by_one i m next code_is effect = (next, record { instruction = i; there = code_is; effect = effect }, refl)
 
   -- steps after steps
   pub comes_on : (a b : ℕ) (m n o : Machine) → ComesTo code a m n → ComesTo code b n o → ComesTo code (a + b) m o
@@ -28,16 +28,16 @@ module _ (code : Code) where
       let e : suc a + b ≡ suc (a + b) = omega arith in
       subst (λ k. ComesTo code k m o) (sym e) (first.0, first.1, comes_on a b first.0 n o first.2 second)
 
-  -- the front and the back of instructions that stand one after another
-  pub stands_front : (p : ℕ) (a b : List Operation) → InstructionsAt code p (a ++ b) → InstructionsAt code p a
-  stands_front p [] b h = tt
-  stands_front p (i ∷ a) b h = (h.0, stands_front (p + 4) a b h.1)
+  -- the front and the back of instructions one after another
+  pub instructions_front : (p : ℕ) (a b : List Operation) → InstructionsAt code p (a ++ b) → InstructionsAt code p a
+  instructions_front p [] b h = tt
+  instructions_front p (i ∷ a) b h = (h.0, instructions_front (p + 4) a b h.1)
 
-  pub stands_back : (p : ℕ) (a b : List Operation) → InstructionsAt code p (a ++ b) → InstructionsAt code (p + 4 * length a) b
-  stands_back p [] b h = let e : p ≡ p + 0 = omega arith in subst (λ n. InstructionsAt code n b) e h
-  stands_back p (i ∷ a) b h =
+  pub instructions_back : (p : ℕ) (a b : List Operation) → InstructionsAt code p (a ++ b) → InstructionsAt code (p + 4 * length a) b
+  instructions_back p [] b h = let e : p ≡ p + 0 = omega arith in subst (λ n. InstructionsAt code n b) e h
+  instructions_back p (i ∷ a) b h =
       let e : p + 4 + 4 * length a ≡ p + 4 * length (i ∷ a) = omega arith in
-      subst (λ n. InstructionsAt code n b) e (stands_back (p + 4) a b h.1)
+      subst (λ n. InstructionsAt code n b) e (instructions_back (p + 4) a b h.1)
 
 -- what a register is after a write to it, and after a write to another one
 pub with_register_same : (rs : ℕ → ℕ) (rd v : ℕ) → (rd == reg.ZERO) ≡ false → with_register rs rd v rd ≡ v

@@ -28,7 +28,7 @@ pub record IsStart (account ticks : ℕ) (m : Machine) : Type 0 where
   pub counter : m.counter ≡ table_start
   pub mapped : (a : ℕ) → a % 4 ≡ 0 → stack_top - account ≤ a → a < stack_top → IsSome (m.words a)
 
--- after so many steps the machine stands at the end service, and VALUE has the value as a signed number
+-- after so many steps the machine is at the end service, and VALUE has the value as a signed number
 pub record Ends (words : List ℕ) (start : Machine) (steps : ℕ) (value : ℤ) : Type 0 where
   pub last : Machine
   pub comes : ComesTo (InstructionAt words) steps start last

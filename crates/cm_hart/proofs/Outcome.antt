@@ -100,8 +100,8 @@ pub record Answers (image : List ℕ) (view : View) (i : Operation) (hart : Hart
   pub leaves : HasHartOutcome (hart_outcome view i hart) hart answer new memory
 
 module _ (image : List ℕ) (view : View) (i : Operation) (hart : Hart) (answer : Halt) (new : Hart) (memory : View) (answers : Answers image view i hart answer new memory) where
-  told : Tells (action_at i (slice_index hart.regs) hart.pc) (slice_index hart.regs 31) answer
-  told =
+  answer_tells : Tells (action_at i (slice_index hart.regs) hart.pc) (slice_index hart.regs 31) answer
+  answer_tells =
       let asks = action_at i (slice_index hart.regs) hart.pc in
       subst (Tells asks (slice_index hart.regs 31)) (sym answers.leaves.halt_is) (change_tells (cell_at view) asks (slice_index hart.regs 31) hart.pc)
 
@@ -111,7 +111,7 @@ module _ (image : List ℕ) (view : View) (i : Operation) (hart : Hart) (answer 
     where
       to : answer ≡ Service n → (n ≡ slice_index hart.regs 31) × InstructionAt image hart.pc ecall
       to e =
-          let tells = subst (Tells (action_at i (slice_index hart.regs) hart.pc) (slice_index hart.regs 31)) e told in
+          let tells = subst (Tells (action_at i (slice_index hart.regs) hart.pc) (slice_index hart.regs 31)) e answer_tells in
           (tells.0, subst (InstructionAt image hart.pc) (asker_is_ecall _ i (slice_index hart.regs) hart.pc answers.there.2 tells.1) answers.there)
 
       from : (n ≡ slice_index hart.regs 31) × InstructionAt image hart.pc ecall → answer ≡ Service n
@@ -122,7 +122,7 @@ module _ (image : List ℕ) (view : View) (i : Operation) (hart : Hart) (answer 
 
   -- a fault of a jump has an address that is no multiple of 4
   pub jump_answers : (a : ℕ) → answer ≡ Fault faults.Jump a → a % 4 ≢ 0
-  jump_answers a e = subst (Tells (action_at i (slice_index hart.regs) hart.pc) (slice_index hart.regs 31)) e told
+  jump_answers a e = subst (Tells (action_at i (slice_index hart.regs) hart.pc) (slice_index hart.regs 31)) e answer_tells
 
   going_next : (n : Next) (x31 pc : ℕ) → halt_of n x31 ≡ Going → n ≡ next.At (pc_after n pc)
   going_next (next.At address) x31 pc e = refl

@@ -16,6 +16,7 @@ use cm_isa::convention::SERVICE;
 use cm_isa::{FaultKind, Instr, Next, Shown, Words, decode, effect};
 
 /// The instruction at pc, or why there is none: Jump where pc is no address of the image, else Word.
+#[inline(always)]
 fn fetch(image: &[u32], pc: u32) -> Result<Instr, FaultKind>
     ensures cases { MatchResult result (InstructionAt image.now pc) (Lacks image.now pc) }
     ensures found { (i : Operation) → InstructionAt image.now pc i → result ≡ Ok i }
@@ -30,6 +31,7 @@ fn fetch(image: &[u32], pc: u32) -> Result<Instr, FaultKind>
 }
 
 /// Has the effect of the instruction at the pc.
+#[inline(always)]
 fn execute<W: Words>(instr: Instr, hart: &mut Hart, words: &mut W) -> Halt
     requires { MayAccess (W.view words.old)
         (action_at instr (slice_index hart.old.regs) hart.old.pc) }
@@ -61,6 +63,7 @@ fn execute<W: Words>(instr: Instr, hart: &mut Hart, words: &mut W) -> Halt
 /// carries the word of x31, and the pc stays at the `ecall`. A pc that is no multiple of 4 or is outside
 /// the image is a fault (Jump) with the pc; else a word that is no instruction's is one (Word) with the
 /// pc; else PageFault and Fault are as `cm_isa::effect` says. It takes no memory.
+#[inline(always)]
 pub fn step<W: Words>(hart: &mut Hart, image: &Image, words: &mut W) -> Halt
     requires { MayStep (W.view words.old) image.now.words hart.old }
     // Where an instruction is at the pc.

@@ -109,6 +109,14 @@ fn steps(rt: HostRuntime) -> Result<(), Fail> {
         assert_eq!(rt; (hart.regs.get(1), hart.regs.get(6)), (20, 6));
         assert_eq!(rt; memory.words, [9, 6, 9, 9]);
     }
+    // a reply with a word and one without, and the registers of a child
+    hart.pc = 24;
+    hart.reply(Some(77));
+    assert_eq!(rt; (hart.pc, hart.regs.get(5)), (28, 77));
+    hart.reply(None);
+    assert_eq!(rt; (hart.pc, hart.regs.get(5)), (32, 77));
+    let child = hart.regs.clone()?;
+    assert_eq!(rt; (child.get(5), child.get(31)), (77, 6));
     Ok(())
 }
 

@@ -189,10 +189,10 @@ module _ (view : View) (map : IsMap view) (pc : ℕ) where
   view_change asks = action_change (cell_at view) asks pc
 
   -- the word of an access that goes on is mapped
-  touched : (size : Size) (a address : ℕ) (b : Bool) (c : Change) → ((e : c.next ≡ At address) → (w : ℕ) × (view_words view (word_address a) ≡ Some w))
+  access_by_mapped : (size : Size) (a address : ℕ) (b : Bool) (c : Change) → ((e : c.next ≡ At address) → (w : ℕ) × (view_words view (word_address a) ≡ Some w))
       → (if b then c else stops (Fault faults.Align a)).next ≡ At address → (b ≡ true) × ((place : ℕ) × Touches view a place)
-  touched size a address true c found e = let word = found e in (refl, touches_mapped view map a word.0 word.1)
-  touched size a address false c found e = absurd (fault_is_no_address faults.Align a address e)
+  access_by_mapped size a address true c found e = let word = found e in (refl, touches_mapped view map a word.0 word.1)
+  access_by_mapped size a address false c found e = absurd (fault_is_no_address faults.Align a address e)
 
   -- where the machine goes on, the view changes as its words do
   same_by_words : (asks : Action) (address : ℕ) → (word_change asks).next ≡ At address → SameChange view (word_change asks) (view_change asks)
@@ -201,10 +201,10 @@ module _ (view : View) (map : IsMap view) (pc : ℕ) where
   same_by_words (Goes t) address e = same_choice view (t % 4 == 0) _ _ (same_goes view _ _) (same_stop view _)
   same_by_words (Links t) address e = same_choice view (t % 4 == 0) _ _ (same_goes view _ _) (same_stop view _)
   same_by_words (Loads size sign a) address e =
-      let there = touched size a address (is_aligned size a) _ (load_mapped (view_words view (word_address a)) size sign a address pc) e in
+      let there = access_by_mapped size a address (is_aligned size a) _ (load_mapped (view_words view (word_address a)) size sign a address pc) e in
       rw there.0 (same_load view size sign a there.1.0 pc there.1.1)
   same_by_words (Stores size a v) address e =
-      let there = touched size a address (is_aligned size a) _ (store_mapped (view_words view (word_address a)) size a v address pc) e in
+      let there = access_by_mapped size a address (is_aligned size a) _ (store_mapped (view_words view (word_address a)) size a v address pc) e in
       rw there.0 (same_store view size a v there.1.0 pc map there.1.1)
   same_by_words Serves address e = same_stop view _
   same_by_words Breaks address e = same_stop view _
@@ -216,32 +216,32 @@ module _ (view : View) (map : IsMap view) (pc : ℕ) where
   access_by_words (Goes t) address e = tt
   access_by_words (Links t) address e = tt
   access_by_words (Loads size sign a) address e =
-      let there = touched size a address (is_aligned size a) _ (load_mapped (view_words view (word_address a)) size sign a address pc) e in
+      let there = access_by_mapped size a address (is_aligned size a) _ (load_mapped (view_words view (word_address a)) size sign a address pc) e in
       λ aligned place is. subst (λ p. IsTrue (view.allowed p)) (sym (same_place there.1.0 place (sym there.1.1.shows ∙ is))) there.1.1.allows
   access_by_words (Stores size a v) address e =
-      let there = touched size a address (is_aligned size a) _ (store_mapped (view_words view (word_address a)) size a v address pc) e in
+      let there = access_by_mapped size a address (is_aligned size a) _ (store_mapped (view_words view (word_address a)) size a v address pc) e in
       λ aligned place is. subst (λ p. IsTrue (view.allowed p)) (sym (same_place there.1.0 place (sym there.1.1.shows ∙ is))) there.1.1.allows
   access_by_words Serves address e = tt
   access_by_words Breaks address e = tt
 
   -- an access that is allowed and goes on
-  chosen : (a address : ℕ) (b : Bool) (c : Change) → (IsTrue b → (place : ℕ) → view.shown a ≡ shown.Place place → IsTrue (view.allowed place))
+  access_by_shown : (a address : ℕ) (b : Bool) (c : Change) → (IsTrue b → (place : ℕ) → view.shown a ≡ shown.Place place → IsTrue (view.allowed place))
       → (c.next ≡ At address → (place : ℕ) × (view.shown a ≡ shown.Place place)) → (if b then c else stops (Fault faults.Align a)).next ≡ At address
       → (b ≡ true) × ((place : ℕ) × Touches view a place)
-  chosen a address true c may found e = let at = found e in (refl, (at.0, touches_shown view map a at.0 at.1 (may refl at.0 at.1)))
-  chosen a address false c may found e = absurd (fault_is_no_address faults.Align a address e)
+  access_by_shown a address true c may found e = let at = found e in (refl, (at.0, touches_shown view map a at.0 at.1 (may refl at.0 at.1)))
+  access_by_shown a address false c may found e = absurd (fault_is_no_address faults.Align a address e)
 
-  -- where the view goes on and may be touched, its words change as it does
+  -- where the view goes on and may be access_by_mapped, its words change as it does
   same_by_view : (asks : Action) (address : ℕ) → MayAccess view asks → (view_change asks).next ≡ At address → SameChange view (word_change asks) (view_change asks)
   same_by_view (Sets v) address may e = same_goes view _ _
   same_by_view Passes address may e = same_goes view _ _
   same_by_view (Goes t) address may e = same_choice view (t % 4 == 0) _ _ (same_goes view _ _) (same_stop view _)
   same_by_view (Links t) address may e = same_choice view (t % 4 == 0) _ _ (same_goes view _ _) (same_stop view _)
   same_by_view (Loads size sign a) address may e =
-      let there = chosen a address (is_aligned size a) _ may (load_shown view (view.shown a) size sign a address pc) e in
+      let there = access_by_shown a address (is_aligned size a) _ may (load_shown view (view.shown a) size sign a address pc) e in
       rw there.0 (same_load view size sign a there.1.0 pc there.1.1)
   same_by_view (Stores size a v) address may e =
-      let there = chosen a address (is_aligned size a) _ may (store_shown view (view.shown a) size a v address pc) e in
+      let there = access_by_shown a address (is_aligned size a) _ may (store_shown view (view.shown a) size a v address pc) e in
       rw there.0 (same_store view size a v there.1.0 pc map there.1.1)
   same_by_view Serves address may e = same_stop view _
   same_by_view Breaks address may e = same_stop view _
@@ -267,10 +267,10 @@ module _ (view : View) (map : IsMap view) (rs : List ℕ) (pc : ℕ) (i : Operat
   asks = action_at i (slice_index rs) pc
 
   -- the outcome's machine, where the changes are the same
-  made : (address : ℕ) → SameChange view (word_change view map pc asks) (view_change view map pc asks)
+  changed_machine : (address : ℕ) → SameChange view (word_change view map pc asks) (view_change view map pc asks)
       → machine_of (outcome view i rs pc).memory (outcome view i rs pc).registers address
       ≡ record { registers = with_result (slice_index rs) i.rd (word_change view map pc asks).result; counter = address; words = with_write (view_words view) (word_change view map pc asks).write }
-  made address same =
+  changed_machine address same =
       same_machine _ _ (put_result_register rs i.rd (view_change view map pc asks).result within ∙ ap (with_result (slice_index rs) i.rd) same.same_result) refl same.same_write
 
   -- a step of the machine is that of the outcome
@@ -280,7 +280,7 @@ module _ (view : View) (map : IsMap view) (rs : List ℕ) (pc : ℕ) (i : Operat
       let change = word_change view map pc asks in
       let goes = next_is change.next change.result i.rd change.write before m e in
       let same = same_by_words view map pc asks m.counter goes.0 in
-      (same.same_next ∙ goes.0, made m.counter same ∙ goes.1)
+      (same.same_next ∙ goes.0, changed_machine m.counter same ∙ goes.1)
 
   -- an outcome that goes on is a step of the machine
   pub machine_by_outcome : (address : ℕ) → MayAccess view asks → (outcome view i rs pc).next ≡ At address
@@ -289,7 +289,7 @@ module _ (view : View) (map : IsMap view) (rs : List ℕ) (pc : ℕ) (i : Operat
       let change = word_change view map pc asks in
       let same = same_by_view view map pc asks address may e in
       let next : change.next ≡ At address = sym same.same_next ∙ e in
-      ap (λ (n : Next). next_machine n change.result i.rd change.write before) next ∙ ap Some (sym (made address same))
+      ap (λ (n : Next). next_machine n change.result i.rd change.write before) next ∙ ap Some (sym (changed_machine address same))
 
 -- a step of the machine touches what is allowed
 pub access_by_machine : (view : View) → IsMap view → (rs : List ℕ) (pc : ℕ) (i : Operation) (m : Machine) → machine_after i (machine_of view rs pc) ≡ Some m

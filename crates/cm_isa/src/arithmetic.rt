@@ -20,6 +20,7 @@ pub(crate) fn offset_of(base: u32, imm: i32) -> u32
 
 /// What a kind that computes gives, from the words of rs1 and of rs2 or the immediate (RISC-V
 /// Unprivileged ISA, RV32I 2.4 and M); 0 for the other kinds.
+#[inline(always)]
 pub(crate) fn compute(kind: Kind, first: u32, second: u32) -> u32
     ensures { result ≡ compute kind first second }
 {

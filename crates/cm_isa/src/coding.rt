@@ -46,6 +46,7 @@ pub fn encode(instr: Instr) -> u32
 }
 
 /// The instruction of a word, or None exactly where the word is in no row of the listings.
+#[inline(always)]
 pub fn decode(word: u32) -> Option<Instr>
     ensures row { IfSome result (λ i. Row word i) }
     ensures all { (i : Operation) → Row word i → result ≡ Some i }
@@ -68,6 +69,7 @@ pub fn decode(word: u32) -> Option<Instr>
 }
 
 /// The kind of a word.
+#[inline(always)]
 fn kind_of(word: u32) -> Option<Kind>
     ensures found { IfSome result (λ k. Matches (form_of k) word) }
     ensures only { (k : Kind) → Matches (form_of k) word → result ≡ Some k }

@@ -102,6 +102,7 @@ fn branch_to(test: bool, target: u32) -> Action
 }
 
 /// What an instruction at pc asks for, where rs1 and rs2 have these words.
+#[inline(always)]
 fn action_of(instr: Instr, pc: u32, first: u32, second: u32) -> Action
     ensures { result ≡ action instr pc first second }
 {
@@ -197,6 +198,7 @@ fn stored_word(size: Size, address: u32, whole: u32, value: u32) -> u32
 }
 
 /// Loads into rd.
+#[inline(always)]
 fn load<W: Words>(
     size: Size,
     sign: bool,
@@ -236,6 +238,7 @@ fn load<W: Words>(
 
 /// Stores the low bytes of a register's word. The outcome is said at any registers and rd, which a store
 /// leaves alone.
+#[inline(always)]
 fn store<W: Words>(size: Size, address: u32, value: u32, pc: u32, words: &mut W) -> Next
     requires allowed { MayAccess (W.view words.old) (Stores size address value) }
     ensures outcome { (rd : ℕ) (rs : List ℕ) → let store = Stores size address value in
@@ -272,6 +275,7 @@ fn store<W: Words>(size: Size, address: u32, value: u32, pc: u32, words: &mut W)
 /// Page, and a fault (Place) where it shows Outside. A jump, or a branch that is taken, to a target
 /// that is no multiple of 4 is a fault (Jump), and `ebreak` is one (Break). After a fault, a page
 /// fault or a service the registers and words are as they were.
+#[inline(always)]
 pub fn effect<W: Words>(instr: Instr, regs: &mut Regs, pc: u32, words: &mut W) -> Next
     requires { MayAccess (W.view words.old) (action_at instr (slice_index regs.old) pc) }
     ensures outcome { let after = outcome (W.view words.old) instr regs.old pc in
