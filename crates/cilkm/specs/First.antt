@@ -4,6 +4,7 @@ use Rattle.cm_syntax.specs.declared.expr.Expr.{Expr}
 use Rattle.cm_syntax.specs.declared.expr.Expr.TheVariants.{Number}
 use Rattle.cm_syntax.specs.declared.expr.Op.{Op}
 use Rattle.cm_syntax.specs.declared.expr.Op.TheVariants.{Mul, Add, Sub}
+use Rattle.cm_syntax.specs.Limit.{max_operators, max_source_bytes}
 use Rattle.cm_syntax.specs.Shape.{Joined}
 use Rattle.cm_syntax.specs.Expr.{operator_count}
 use Rattle.cilkm.specs.Scan.{IsWhite, TokenAt, WordAt, LiteralAt}
@@ -75,14 +76,6 @@ pub record Closes (bytes : List ℕ) : Type 0 where
   pub brace_at : TokenAt (codes "}") after_semicolon rest
   pub white : IsWhite rest
 
--- the most bytes of a source
-abbrev pub max_source : ℕ
-max_source = 65536
-
--- the most signs of an expression
-abbrev pub max_signs : ℕ
-max_signs = 64
-
 -- The bytes are a source of the first form, whose `main` returns this expression.
 pub record IsFirstForm (bytes : List ℕ) (expression : Expr ℕ) : Type 0 where
   pub text : List ℕ
@@ -90,8 +83,8 @@ pub record IsFirstForm (bytes : List ℕ) (expression : Expr ℕ) : Type 0 where
   pub opens : Opens bytes text
   pub sum : IsSum expression text rest
   pub closes : Closes rest
-  pub few_signs : operator_count expression ≤ max_signs
-  pub short : length bytes ≤ max_source
+  pub few_signs : operator_count expression ≤ max_operators
+  pub short : length bytes ≤ max_source_bytes
 
 -- a byte that is a sign
 abbrev pub is_sign : ℕ → Bool

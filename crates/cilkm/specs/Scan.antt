@@ -2,6 +2,7 @@
 use Rattle.std.specs.Prelude.{◌≡◌, ℕ, ◌≤◌, Bool, true, false, List, [], ◌∷◌, ◌++◌, length, slice_index, ⊤, ℤ, pos, if◌then◌else◌}
 use Rattle.std.specs.List.{AllByRecursion}
 use Rattle.std.specs.Str.Parse.{IsNumeral, digits_value}
+use Rattle.cm_syntax.specs.Limit.{max_literal}
 use Rattle.cm_syntax.specs.Text.{is_space, is_word_byte}
 
 -- each byte is white space
@@ -28,10 +29,6 @@ pub record TokenAt (token bytes rest : List ℕ) : Type 0 where
 pub record WordAt (token bytes rest : List ℕ) : Type 0 where
   pub here : TokenAt token bytes rest
   pub apart : DoesNotBegin is_word_byte rest
-
--- the largest literal
-abbrev pub max_literal : ℕ
-max_literal = 2147483647
 
 -- The digits of a literal, 0 or digits that don't begin with 0, and its value.
 pub record IsLiteral (digits : List ℕ) (number : ℤ) : Type 0 where
