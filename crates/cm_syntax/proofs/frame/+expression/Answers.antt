@@ -1,6 +1,6 @@
 use Rattle.std.proofs.Common.{arith, ap, refl, ◌∙◌}
 use Rattle.cm_syntax.specs.Frame as frame
-use Rattle.cm_syntax.proofs.FrameLaws.{temporaries_at_least, passes-Index, passes-Input, passes-Unary, joins-Binary, arguments_size, takes, size_of-Call, rest_of_call, rest_of_call-whole}
+use Rattle.cm_syntax.proofs.FrameLaw.{temporaries_at_least, passes-Index, passes-Input, passes-Unary, joins-Binary, arguments_size, takes, size_of-Call, rest_of_call, rest_of_call-whole}
 use Rattle.cm_syntax.proofs.frame.+expression.Goals as goal
 
 pub temporaries-temporaries-requires : goal.temporaries-temporaries-requires

@@ -1,7 +1,7 @@
 use Rattle.std.proofs.Common.{◌≡◌, ◌+◌, drop}
 use Rattle.cm_syntax.specs.Frame as frame
 use Rattle.cm_syntax.specs.declared.expr.Expr.TheVariants as expression
-use Rattle.cm_syntax.proofs.FrameLaws.{size_of, argument_size, arguments_size, rest_of_call}
+use Rattle.cm_syntax.proofs.FrameLaw.{size_of, argument_size, arguments_size, rest_of_call}
 use Rattle.cm_syntax.proofs.frame.+expression.Given as goal
 
 abbrev pub decreases-argument_temporaries : goal.decreases-argument_temporaries

@@ -1,5 +1,5 @@
 use Rattle.std.proofs.Common.{arith, refl}
-use Rattle.cm_syntax.proofs.StatementLaws.{chooses_alone, chooses, tests, repeats, counts, holds-Block, holds-Split, follows}
+use Rattle.cm_syntax.proofs.StatementLaw.{chooses_alone, chooses, tests, repeats, counts, holds-Block, holds-Split, follows}
 use Rattle.cm_syntax.proofs.frame.+statement.Goals as goal
 
 pub statement_temporaries-temporaries-requires : goal.statement_temporaries-temporaries-requires

@@ -1,6 +1,6 @@
 use Rattle.std.proofs.Common.{◌≡◌, ◌+◌, max, drop}
 use Rattle.cm_syntax.specs.Frame as frame
-use Rattle.cm_syntax.proofs.StatementLaws.{statement_size, body_size}
+use Rattle.cm_syntax.proofs.StatementLaw.{statement_size, body_size}
 use Rattle.cm_syntax.proofs.frame.+statement.Given as goal
 
 abbrev pub decreases-statement_temporaries : goal.decreases-statement_temporaries

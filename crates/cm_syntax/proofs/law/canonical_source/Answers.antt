@@ -1,4 +1,4 @@
-use Rattle.cm_syntax.proofs.ProgramPrinting.{canonical_reads_back}
+use Rattle.cm_syntax.proofs.printing.ProgramPrinting.{canonical_reads_back}
 use Rattle.cm_syntax.proofs.law.canonical_source.Goals as goal
 
 pub returns : goal.returns

@@ -1,4 +1,4 @@
-use Rattle.cm_syntax.proofs.SoundLaws.{frames_agree}
+use Rattle.cm_syntax.proofs.naming.SoundLaw.{frames_agree}
 use Rattle.cm_syntax.proofs.law.frame_words_agree.Goals as goal
 
 pub returns : goal.returns

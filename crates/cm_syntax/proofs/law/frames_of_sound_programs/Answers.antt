@@ -1,4 +1,4 @@
-use Rattle.cm_syntax.proofs.SoundLaws.{sound_frame}
+use Rattle.cm_syntax.proofs.naming.SoundLaw.{sound_frame}
 use Rattle.cm_syntax.proofs.law.frames_of_sound_programs.Goals as goal
 
 pub returns : goal.returns

@@ -1,4 +1,4 @@
-use Rattle.cm_syntax.proofs.NumberLaws.{function_declared, function_numbered}
+use Rattle.cm_syntax.proofs.naming.NumberLaw.{function_declared, function_numbered}
 use Rattle.cm_syntax.proofs.law.numbers_of_names.Goals as goal
 
 pub returns-clause-mentions : goal.returns-clause-mentions

@@ -1,4 +1,4 @@
-use Rattle.cm_syntax.proofs.OneAnswer.{IsAnswer-one, IsNameAnswer-one}
+use Rattle.cm_syntax.proofs.refusing.OneAnswer.{IsAnswer-one, IsNameAnswer-one}
 use Rattle.cm_syntax.proofs.law.one_answer.Goals as goal
 
 pub returns-clause-source : goal.returns-clause-source

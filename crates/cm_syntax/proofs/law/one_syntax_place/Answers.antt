@@ -1,4 +1,4 @@
-use Rattle.cm_syntax.proofs.RefusalLaws.{Syntax-one}
+use Rattle.cm_syntax.proofs.refusing.RefusalLaw.{Syntax-one}
 use Rattle.cm_syntax.proofs.law.one_syntax_place.Goals as goal
 
 pub returns : goal.returns

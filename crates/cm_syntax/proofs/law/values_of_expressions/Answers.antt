@@ -1,4 +1,4 @@
-use Rattle.cm_syntax.proofs.ValueRows.{sum_wraps, product_wraps, sum_value, difference_value, left_value, right_temporaries, left_temporaries, two_operators}
+use Rattle.cm_syntax.proofs.ValueRow.{sum_wraps, product_wraps, sum_value, difference_value, left_value, right_temporaries, left_temporaries, two_operators}
 use Rattle.cm_syntax.proofs.law.values_of_expressions.Goals as goal
 
 pub returns-clause-sum_wraps : goal.returns-clause-sum_wraps

@@ -3,7 +3,7 @@ use Rattle.std.proofs.Common.{◌≡◌, ℕ, ◌<◌, List, [], ◌∷◌, ◌+
 use Rattle.std.proofs.lemmas.Bool.{cases_order}
 use Rattle.cm_syntax.specs.Token.{LocatedToken}
 use Rattle.cm_syntax.specs.Refusal.{BeginsProgram, IsProgram, StopsAtToken, StopsAtEnd, Syntax}
-use Rattle.cm_syntax.proofs.TokenLaws.{shorter_front, equal_fronts, Tokens-one}
+use Rattle.cm_syntax.proofs.lexing.TokenLaw.{shorter_front, equal_fronts, Tokens-one}
 
 -- what begins a program has fronts that do
 pub BeginsProgram-front : (a b : List LocatedToken) → BeginsProgram (a ++ b) → BeginsProgram a

@@ -19,7 +19,7 @@ use Rattle.cm_syntax.specs.ParseTree.{level_of}
 use Rattle.cm_syntax.specs.Yield.{sign_of}
 use Rattle.cm_syntax.specs.Canonical.{word_token, sign_token, name_token, own_level, parenthesize, expression_text, arguments_text, argument_text, optional_text, simple_text, condition_text, statement_text, statements_text, body_text, target_text}
 use Rattle.cm_syntax.specs.Offset.{bare, bare_expression, bare_row, bare_argument, bare_call, bare_statement, bare_statements}
-use Rattle.cm_syntax.proofs.StatementLaws.{If-Alone, If-Else, While-Loop, For-Loop}
+use Rattle.cm_syntax.proofs.StatementLaw.{If-Alone, If-Else, While-Loop, For-Loop}
 
 -- ---- expressions
 

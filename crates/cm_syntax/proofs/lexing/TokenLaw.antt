@@ -9,7 +9,7 @@ use Rattle.cm_syntax.specs.declared.token.Keyword.{Keyword}
 use Rattle.cm_syntax.specs.declared.token.Sign.{Sign}
 use Rattle.cm_syntax.specs.Text.{is_space, is_letter, is_word_byte, keyword_text, sign_text}
 use Rattle.cm_syntax.specs.Token.{Token, LocatedToken, DoesNotBegin, begins, is_reserved, Spells, IsComment, OpensComment, IsFirstToken, IsFaulty, Tokens}
-use Rattle.cm_syntax.proofs.Spelling.{keyword_text-injective, keyword_begins, keyword_bytes, keyword_free, sign_text-injective, sign_begins, sign_black, sign_short, reserved_begins, reserved_bytes}
+use Rattle.cm_syntax.proofs.lexing.Spelling.{keyword_text-injective, keyword_begins, keyword_bytes, keyword_free, sign_text-injective, sign_begins, sign_black, sign_short, reserved_begins, reserved_bytes}
 
 -- ---- bytes
 

@@ -9,10 +9,10 @@ use Rattle.cm_syntax.specs.Yield.{CountedToken, program_tokens, located_tokens}
 use Rattle.cm_syntax.specs.Lowering.{lower_program}
 use Rattle.cm_syntax.specs.Grammar.{Parses, IsSourceOf}
 use Rattle.cm_syntax.specs.Machine.{State, Next, goes, stops, step, some_functions, finish, start}
-use Rattle.cm_syntax.proofs.TokenLaws.{Tokens-one}
-use Rattle.cm_syntax.proofs.YieldLaws.{regroup}
-use Rattle.cm_syntax.proofs.machine.Trace.{Trace, took, stuck, over, next_trace, trace, taken, taken-append}
-use Rattle.cm_syntax.proofs.machine.ProgramTrace.{program_leads}
+use Rattle.cm_syntax.proofs.lexing.TokenLaw.{Tokens-one}
+use Rattle.cm_syntax.proofs.YieldLaw.{regroup}
+use Rattle.cm_syntax.proofs.machine.trace.Trace.{Trace, took, stuck, over, next_trace, trace, taken, taken-append}
+use Rattle.cm_syntax.proofs.machine.trace.ProgramTrace.{program_leads}
 
 -- The machine takes the tokens of a program with their counts, and comes behind its functions.
 pub program_traced : (p : grammar.Program) → trace start (located_tokens (program_tokens p)) ≡ taken (program_tokens p) (over (State.functions_next (lower_program p)))

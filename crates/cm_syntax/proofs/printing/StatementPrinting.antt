@@ -20,9 +20,9 @@ use Rattle.cm_syntax.specs.Yield.{Quantity, any_tokens, optional_tokens, item_to
 use Rattle.cm_syntax.specs.Lowering.{lower_any, lower_optional, lower_item, lower_items, lower_target, lower_simple}
 use Rattle.cm_syntax.specs.Canonical.{sign_token, expression_text, optional_text, item_text, items_text, target_text, simple_text}
 use Rattle.cm_syntax.specs.Offset.{bare, bare_expression, bare_item, bare_target, bare_statement}
-use Rattle.cm_syntax.proofs.Laying.{Writable, behind}
-use Rattle.cm_syntax.proofs.TextLaws.{IndexText, starred, bracketed, index_text}
-use Rattle.cm_syntax.proofs.Printing.{past, Lays, none, one, both, as_text, AreWritable, front_writable, back_writable, moved, print_expression, print_call}
+use Rattle.cm_syntax.proofs.printing.Laying.{Writable, behind}
+use Rattle.cm_syntax.proofs.printing.TextLaw.{IndexText, starred, bracketed, index_text}
+use Rattle.cm_syntax.proofs.printing.Printing.{past, Lays, none, one, both, as_text, AreWritable, front_writable, back_writable, moved, print_expression, print_call}
 
 -- ---- expressions of any level
 

@@ -3,9 +3,9 @@ use Rattle.std.proofs.Common.{◌≡◌, ◌≢◌, ℕ, suc, ◌+◌, ◌<◌, 
 use Rattle.cm_syntax.specs.Token.{LocatedToken, Tokens}
 use Rattle.cm_syntax.specs.Yield.{located_tokens}
 use Rattle.cm_syntax.specs.Refusal.{BeginsProgram, Exceeds}
-use Rattle.cm_syntax.proofs.TokenLaws.{shorter_front, Tokens-one, token_some}
-use Rattle.cm_syntax.proofs.RefusalLaws.{BeginsProgram-front}
-use Rattle.cm_syntax.proofs.YieldLaws.{located-append}
+use Rattle.cm_syntax.proofs.lexing.TokenLaw.{shorter_front, Tokens-one, token_some}
+use Rattle.cm_syntax.proofs.refusing.RefusalLaw.{BeginsProgram-front}
+use Rattle.cm_syntax.proofs.YieldLaw.{located-append}
 
 -- ---- offsets ascend
 

@@ -12,8 +12,8 @@ use Rattle.cm_syntax.specs.declared.token.Keyword.{Keyword}
 use Rattle.cm_syntax.specs.declared.token.Sign.{Sign}
 use Rattle.cm_syntax.specs.Text.{is_space, is_letter, is_word_byte, is_same, keyword_text, sign_text}
 use Rattle.cm_syntax.specs.Token.{Token, LocatedToken, DoesNotBegin, begins, is_reserved, IsNumber, Spells, IsApart, IsComment, OpensComment, IsFirstToken, IsFaulty, Tokens}
-use Rattle.cm_syntax.proofs.Spelling.{all_keywords, all_signs, keyword_written, keyword_written-text, keyword_begins, reserved_begins, sign_written, sign_written-text, sign_short, sign_begins, is_same-equal}
-use Rattle.cm_syntax.proofs.TokenLaws.{word_or_sign, token_some, digits_in_word, comment_opens, dropped}
+use Rattle.cm_syntax.proofs.lexing.Spelling.{all_keywords, all_signs, keyword_written, keyword_written-text, keyword_begins, reserved_begins, sign_written, sign_written-text, sign_short, sign_begins, is_same-equal}
+use Rattle.cm_syntax.proofs.lexing.TokenLaw.{word_or_sign, token_some, digits_in_word, comment_opens, dropped}
 
 -- ---- the bytes at the front that pass a test, and the others
 

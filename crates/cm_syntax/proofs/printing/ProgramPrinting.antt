@@ -21,11 +21,11 @@ use Rattle.cm_syntax.specs.Grammar.{IsSourceOf}
 use Rattle.cm_syntax.specs.Refusal.{IsSoundTree}
 use Rattle.cm_syntax.specs.Canonical.{sign_token, word_token, expression_text, optional_text, item_text, items_text, simple_text, condition_text, statement_text, body_text, parameters_text, function_text, functions_text, canonical}
 use Rattle.cm_syntax.specs.Offset.{bare, bare_item, bare_statement, bare_function, without_offsets}
-use Rattle.cm_syntax.proofs.Laying.{AllWritable, behind, laid, laid_tokens}
-use Rattle.cm_syntax.proofs.SoundTokens.{sound_written}
-use Rattle.cm_syntax.proofs.TextLaws.{text-If, bare-If, text-Else, bare-Else, text-While, bare-While, text-For, bare-For, text-Block, bare-Block, text-Split, bare-Split}
-use Rattle.cm_syntax.proofs.Printing.{past, Lays, none, one, both, as_text, AreWritable, front_writable, back_writable, moved, print_call}
-use Rattle.cm_syntax.proofs.StatementPrinting.{print_any, print_optional, print_items, print_simple}
+use Rattle.cm_syntax.proofs.printing.Laying.{AllWritable, behind, laid, laid_tokens}
+use Rattle.cm_syntax.proofs.printing.SoundToken.{sound_written}
+use Rattle.cm_syntax.proofs.printing.TextLaw.{text-If, bare-If, text-Else, bare-Else, text-While, bare-While, text-For, bare-For, text-Block, bare-Block, text-Split, bare-Split}
+use Rattle.cm_syntax.proofs.printing.Printing.{past, Lays, none, one, both, as_text, AreWritable, front_writable, back_writable, moved, print_call}
+use Rattle.cm_syntax.proofs.printing.StatementPrinting.{print_any, print_optional, print_items, print_simple}
 
 -- ---- the parts of a `for`
 

@@ -5,7 +5,7 @@ use Rattle.cm_syntax.specs.declared.expr.Mark.{Mark}
 use Rattle.cm_syntax.specs.declared.expr.Expr.{Expr}
 use Rattle.cm_syntax.specs.declared.stmt.Stmt.{Stmt, Row_of-Stmt, end_of-Stmt, more_of-Stmt, items-the_row-Stmt, items_hidden-the_row-Stmt-1}
 use Rattle.cm_syntax.specs.declared.stmt.Stmt.TheVariants.{If, While, For, Split, Split', Block, Block'}
-use Rattle.cm_syntax.proofs.FrameLaws.{next}
+use Rattle.cm_syntax.proofs.FrameLaw.{next}
 use Rattle.cm_syntax.specs.Shape.{IfAlone, IfElse, WhileLoop, ForLoop}
 use Rattle.cm_syntax.specs.Frame.{temporaries, optional_temporaries, statement_temporaries, statements_temporaries, body_temporaries}
 

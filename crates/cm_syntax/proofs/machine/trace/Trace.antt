@@ -3,7 +3,7 @@ use Rattle.std.proofs.Common.{◌≡◌, List, [], ◌∷◌, ◌++◌, refl, ap
 use Rattle.cm_syntax.specs.Token.{LocatedToken}
 use Rattle.cm_syntax.specs.ParseTree.{Offset}
 use Rattle.cm_syntax.specs.Yield.{Quantity, CountedToken, located_tokens}
-use Rattle.cm_syntax.proofs.YieldLaws.{regroup}
+use Rattle.cm_syntax.proofs.YieldLaw.{regroup}
 use Rattle.cm_syntax.specs.Machine.{State, Next, goes, stops, step}
 
 -- the counts at the tokens that the machine takes, and where it comes to or stops

@@ -9,7 +9,7 @@ use Rattle.cm_syntax.specs.Token.{Token, LocatedToken, token_at}
 use Rattle.cm_syntax.specs.ParseTree.{Mark, Offset, Expression, Arguments, Argument, AnyExpression, Declaration, Simple, FirstPart, Plain, Statements, Parameter, ParameterList, Parameters}
 use Rattle.cm_syntax.specs.ParseTree as grammar
 use Rattle.cm_syntax.specs.Yield.{Quantity, sign_of, update_sign, step_sign, operators_of, expression_tokens, call_tokens, simple_call_tokens, arguments_tokens, argument_tokens, any_tokens, optional_tokens, item_tokens, items_tokens, declaration_tokens, target_tokens, simple_tokens, first_part_tokens, last_part_tokens, plain_tokens, statements_tokens, parameter_tokens, parameter_list_tokens, parameters_tokens, cilk_tokens, function_tokens, program_tokens, located_tokens}
-use Rattle.cm_syntax.proofs.YieldLaws.{regroup}
+use Rattle.cm_syntax.proofs.YieldLaw.{regroup}
 
 -- ---- tokens
 

@@ -20,9 +20,9 @@ use Rattle.cm_syntax.specs.Yield.{CountedToken, counted_token, Quantity, operato
 use Rattle.cm_syntax.specs.Lowering.{lower_expression, lower_call, lower_arguments, lower_argument}
 use Rattle.cm_syntax.specs.Canonical.{sign_token, own_level, parenthesize, expression_text, argument_text}
 use Rattle.cm_syntax.specs.Offset.{bare, bare_expression, bare_argument, bare_call}
-use Rattle.cm_syntax.proofs.YieldLaws.{located-append}
-use Rattle.cm_syntax.proofs.Laying.{Writable, AllWritable, behind, laid}
-use Rattle.cm_syntax.proofs.TextLaws.{text-Binary, level-Binary, bare-Binary, text-Unary, level-Unary, bare-Unary, bare-Index, text-Input, bare-Input, IndexText, starred, bracketed, index_text, listed, text-Call, bare-Call}
+use Rattle.cm_syntax.proofs.YieldLaw.{located-append}
+use Rattle.cm_syntax.proofs.printing.Laying.{Writable, AllWritable, behind, laid}
+use Rattle.cm_syntax.proofs.printing.TextLaw.{text-Binary, level-Binary, bare-Binary, text-Unary, level-Unary, bare-Unary, bare-Index, text-Input, bare-Input, IndexText, starred, bracketed, index_text, listed, text-Call, bare-Call}
 
 -- ---- tokens laid out
 

@@ -20,8 +20,8 @@ use Rattle.cm_syntax.specs.Shape.{Joined, Prefixed, Element, InputAt, IfAlone, I
 use Rattle.cm_syntax.specs.Text.{is_same}
 use Rattle.cm_syntax.specs.Resolution.{Variable, Scope, Role, lookup, inner_scope, function_scope, declare_name, declare_items, split_scope, slot_count, slots_count, reserve_slots, scope_after, statement_slots, body_slots, function_slots, ArgumentForm, value_form, slice_form, any_form, variable_form, Use, mention, redeclaration, parallel_keyword, expression_uses, arguments_uses, argument_uses, optional_uses, call_uses, target_uses, redeclaration_uses, items_uses, spawn_uses, statement_uses, statements_uses, body_uses, function_uses, variable_number, function_number, resolve_mark, resolve_bare, resolve_expression, resolve_arguments, resolve_argument, resolve_optional, resolve_call, resolve_target, resolve_items, resolve_statement, resolve_statements, resolve_body, resolve_function}
 use Rattle.cm_syntax.specs.Number.{expression_numbers, arguments_numbers, argument_numbers, optional_numbers, target_numbers, destination_numbers, items_numbers, statement_numbers, statements_numbers, body_numbers, function_numbers, declared_items, declared_statement, declared_statements, declared_body, declared_numbers, use_numbers, uses_numbers}
-use Rattle.cm_syntax.proofs.StatementLaws.{If-Alone, If-Else, While-Loop, For-Loop}
-use Rattle.cm_syntax.proofs.NameLaws.{slots_counted}
+use Rattle.cm_syntax.proofs.StatementLaw.{If-Alone, If-Else, While-Loop, For-Loop}
+use Rattle.cm_syntax.proofs.naming.NameLaw.{slots_counted}
 
 -- ---- the numbers of each variant as the code makes it
 
