@@ -12,7 +12,7 @@ use std::test::Fail;
 const PROGRAM: &[u8] =
     b"00000000 00000f93\n00000004 00000073\n00000008 0040006f\n0000000c 00021663\n00000010 00600f93\n00000014 00000073\n00000018 fff20213\n0000001c 01000393\n00000020 0071f663\n00000024 00900f93\n00000028 00000073\n0000002c 407181b3\n00000030 01000393\n00000034 40710133\n00000038 00012023\n0000003c 007103b3\n00000040 fe13ae23\n00000044 fe83ac23\n00000048 00038413\n0000004c 00e00293\n00000050 0080006f\n00000054 00000293\n00000058 01000393\n0000005c 007181b3\n00000060 00028513\n00000064 ffc42083\n00000068 00040113\n0000006c ff842403\n00000070 00008067\n";
 
-fn refused(alloc: Global, text: &[u8]) -> Option<ListRefusal> {
+fn refusal_of(alloc: Global, text: &[u8]) -> Option<ListRefusal> {
     unlist(alloc, text).err()
 }
 
@@ -24,22 +24,22 @@ fn listings(rt: HostRuntime) -> Result<(), Fail> {
     let text = list(alloc, &image)?;
     assert_eq!(rt; text.items(), PROGRAM);
     one_image_per_listing();
-    assert_eq!(rt; refused(alloc, b""), None);
+    assert_eq!(rt; refusal_of(alloc, b""), None);
     // An upper-case digit, an end inside a line, a gap in the addresses, and a byte after a line.
     assert_eq!(rt;
-        refused(alloc, b"00000000 00000F93\n"),
+        refusal_of(alloc, b"00000000 00000F93\n"),
         Some(ListRefusal::Line { at: 14 })
     );
     assert_eq!(rt;
-        refused(alloc, b"00000000 00000f93"),
+        refusal_of(alloc, b"00000000 00000f93"),
         Some(ListRefusal::Line { at: 17 })
     );
     assert_eq!(rt;
-        refused(alloc, b"00000000 00000f93\n00000008 00000073\n"),
+        refusal_of(alloc, b"00000000 00000f93\n00000008 00000073\n"),
         Some(ListRefusal::Line { at: 25 })
     );
     assert_eq!(rt;
-        refused(alloc, b"00000000 00000f93\n\n"),
+        refusal_of(alloc, b"00000000 00000f93\n\n"),
         Some(ListRefusal::Line { at: 18 })
     );
     Ok(())

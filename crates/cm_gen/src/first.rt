@@ -31,7 +31,7 @@ pub fn make_first(alloc: Global, value: &Expr<u32>, _page: u32) -> Result<List<u
 {
     let mut code = List::new(alloc);
     image(&mut code, value)?;
-    let words = assembled(alloc, code.items())?;
+    let words = assemble_code(alloc, code.items())?;
     Ok(words)
 }
 
@@ -133,7 +133,7 @@ fn temporaries(value: &Expr<u32>, depth: u32) -> u32
 }
 
 /// The words of instructions, one for each.
-fn assembled(alloc: Global, code: &[Instr]) -> Result<List<u32>, Memory>
+fn assemble_code(alloc: Global, code: &[Instr]) -> Result<List<u32>, Memory>
     ensures { IfOk result (λ words. AreWordsOf words code.now) }
 {
     let mut words = List::new(alloc);

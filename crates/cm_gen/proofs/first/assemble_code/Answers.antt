@@ -2,7 +2,7 @@ use Rattle.std.proofs.Common.{◌≡◌, ◌+◌, ◌∷◌, [], ◌++◌, take,
 use Rattle.std.proofs.lemmas.List.{take_more}
 use Rattle.cm_isa.specs.Address.{AreWordsOf}
 use Rattle.cm_isa.proofs.Image.{AreWordsOf-push}
-use Rattle.cm_gen.proofs.first.assembled.Goals as goal
+use Rattle.cm_gen.proofs.first.assemble_code.Goals as goal
 
 pub loop-instr-preserved : goal.loop-instr-preserved
 loop-instr-preserved c =
