@@ -120,9 +120,9 @@ stack_start stack account ticks whole small = record {
 pub may_step_to_end : (image : List ℕ) (view : View) (hart : Hart) (steps : ℕ) (value : ℤ) → IsMap view → Ends image (hart_machine view hart) steps value → MayStep view image hart
 may_step_to_end image view hart zero value map ends =
     let m = hart_machine view hart in
-    let asks = subst (λ (q : Machine). InstructionAt image q.counter ecall) (sym ends.comes) ends.service in
+    let asks = subst (λ (q : Machine). InstructionAt image q.counter ecall) (sym ends.stops.runs) ends.stops.asks in
     may_step view image hart (call (call_of m None)) (replied_machine m None) map (asks, refl, refl)
-may_step_to_end image view hart (suc steps) value map ends = may_step view image hart silent ends.comes.0 map ends.comes.1
+may_step_to_end image view hart (suc steps) value map ends = may_step view image hart silent ends.stops.runs.0 map ends.stops.runs.1
 
 -- what the contract of a step says of its answer, the hart and the memory after it
 pub record IsStepOf (image : List ℕ) (view : View) (hart : Hart) (answer : Halt) (memory : View) (new : Hart) : Type 0 where
@@ -141,15 +141,15 @@ service_goes_not n e = cc
 pub leads_by : (image : List ℕ) (view : View) (hart : Hart) (answer : Halt) (memory : View) (new : Hart) → IsStepOf image view hart answer memory new
     → (steps : ℕ) (value : ℤ) → Ends image (hart_machine view hart) steps value → Leads image hart answer memory new steps value
 leads_by image view hart answer memory new step zero value ends =
-    let here : ends.last ≡ hart_machine view hart = sym ends.comes in
-    let asks = subst (λ (m : Machine). InstructionAt image m.counter ecall) here ends.service in
+    let here : ends.last ≡ hart_machine view hart = sym ends.stops.runs in
+    let asks = subst (λ (m : Machine). InstructionAt image m.counter ecall) here ends.stops.asks in
     let serves = (step.service (slice_index hart.regs reg.SERVICE)).1 (refl, asks) in
     ended serves (step.halts (λ e. service_goes_not (slice_index hart.regs reg.SERVICE) (sym serves ∙ e))).0
-    (ap (λ (m : Machine). m.registers reg.SERVICE) (sym here) ∙ ends.number) (ap (λ (m : Machine). cast_signed w32 (m.registers reg.VALUE)) (sym here) ∙ ends.result)
+    (ap (λ (m : Machine). m.registers reg.SERVICE) (sym here) ∙ ends.stops.number) (ap (λ (m : Machine). cast_signed w32 (m.registers reg.VALUE)) (sym here) ∙ ends.result)
 leads_by image view hart answer memory new step (suc steps) value ends =
-    let next = ends.comes.0 in
-    let goes = (step.machine next).0 ends.comes.1 in
-    let rest : Ends image next steps value = record { last = ends.last; comes = ends.comes.2; service = ends.service; number = ends.number; result = ends.result } in
+    let next = ends.stops.runs.0 in
+    let goes = (step.machine next).0 ends.stops.runs.1 in
+    let rest : Ends image next steps value = record { last = ends.last; stops = record { runs = ends.stops.runs.2; asks = ends.stops.asks; number = ends.stops.number }; result = ends.result } in
     going steps goes.0 (subst (λ (m : Machine). Ends image m steps value) goes.1 rest)
 
 -- by the clauses of a step over a stack

@@ -47,9 +47,7 @@ runs_to image e closed few are =
             ran.1,
             record {
               last = ran.2;
-              comes = subst (λ m. ComesTo (InstructionAt image) ran.0 m ran.2) (sym same) ran.3;
-              service = ran.4;
-              number = ran.5;
+              stops = record { runs = subst (λ m. ComesTo (InstructionAt image) ran.0 m ran.2) (sym same) ran.3; asks = ran.4; number = ran.5 };
               result = ap (cast_signed w32) ran.6 ∙ words.int-cast_unsigned value.0 (value_fits e value.0 closed value.1);
             },
           ),

@@ -42,7 +42,7 @@ load_slot r o = if is_near o then lw r reg.FP o ∷ [] else lui r (high_part o) 
 abbrev pub store_slot : (r : ℕ) → (offset : ℤ) → List Operation
 store_slot r o = if is_near o then sw r reg.FP o ∷ [] else lui reg.HELP (high_part o) ∷ add reg.HELP reg.HELP reg.FP ∷ sw r reg.HELP (low_part o) ∷ []
 
--- a service of the environment
+-- a call of the environment, by the number of the service
 abbrev pub service : (number : ℤ) → List Operation
 service n = addi reg.SERVICE reg.ZERO n ∷ ecall ∷ []
 

@@ -1,10 +1,9 @@
 -- A run of an image: where it starts, and how it ends.
 use Rattle.std.specs.Prelude.{◌≡◌, ℕ, ◌-◌, ◌%◌, ◌^◌, ◌<◌, ◌≤◌, ◌==◌, if◌then◌else◌, List, ℤ, Some, IsSome}
 use Rattle.std.specs.Int.{w32, cast_signed}
-use Rattle.cm_isa.specs.Operation.{ecall}
 use Rattle.cm_isa.specs.Address.{InstructionAt}
 use Rattle.cm_isa.specs.Machine.{Machine}
-use Rattle.cm_isa.specs.Run.{ComesTo}
+use Rattle.cm_isa.specs.Run.{StopsAt, silence}
 use Rattle.cm_isa.specs.declared.convention.TheConstants as reg
 use Rattle.cm_syntax.specs.declared.expr.Expr.{Expr}
 use Rattle.cm_syntax.specs.Expr.{value_of}
@@ -28,12 +27,14 @@ pub record IsStart (account ticks : ℕ) (m : Machine) : Type 0 where
   pub counter : m.counter ≡ table_start
   pub mapped : (a : ℕ) → a % 4 ≡ 0 → stack_top - account ≤ a → a < stack_top → IsSome (m.words a)
 
--- after so many steps the machine is at the end service, and VALUE has the value as a signed number
+-- the number of the service that ends a run
+abbrev pub end_service : ℕ
+end_service = 0
+
+-- after so many steps the machine stops at the end service, and VALUE has the value as a signed number
 pub record Ends (words : List ℕ) (start : Machine) (steps : ℕ) (value : ℤ) : Type 0 where
   pub last : Machine
-  pub comes : ComesTo (InstructionAt words) steps start last
-  pub service : InstructionAt words last.counter ecall
-  pub number : last.registers reg.SERVICE ≡ 0
+  pub stops : StopsAt (InstructionAt words) (silence steps) start last end_service
   pub result : cast_signed w32 (last.registers reg.VALUE) ≡ value
 
 -- the expression has a value, and from each start with a tick and room for main's frame a run ends with it

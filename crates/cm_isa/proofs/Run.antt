@@ -38,7 +38,7 @@ module _ (code : Code) (one : IsOne code) where
       same_Some a b (sym first.effect ∙ ap (λ (i : Operation). machine_after i m) (one m.counter first.instruction second.instruction first.there second.there) ∙ second.effect)
 
   -- no instruction step goes on from an `ecall`
-  call_is_no_step : (m a : Machine) → StepsTo code m a → code m.counter ecall → ⊥
+  pub call_is_no_step : (m a : Machine) → StepsTo code m a → code m.counter ecall → ⊥
   call_is_no_step m a step asks =
       none-some a (sym (ap (λ (i : Operation). machine_after i m) (one m.counter step.instruction ecall step.there asks)) ∙ step.effect)
 

@@ -5,6 +5,7 @@ ghost use Rattle.cm_isa.specs.Alu.{compute, high, offset};
 use crate::kind::Kind;
 
 /// The bits above the low 32 of a product.
+#[inline(always)]
 fn high_of(product: i64) -> u32
     ensures { result ≡ high product }
 {
@@ -12,6 +13,7 @@ fn high_of(product: i64) -> u32
 }
 
 /// An address and an offset, modulo 2^32.
+#[inline(always)]
 pub(crate) fn offset_of(base: u32, imm: i32) -> u32
     ensures { result ≡ offset base imm }
 {

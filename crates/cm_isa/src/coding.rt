@@ -91,6 +91,7 @@ fn kind_of(word: u32) -> Option<Kind>
 }
 
 /// The kind of a branch.
+#[inline(always)]
 fn branch_kind(word: u32) -> Option<Kind>
     requires { opcode word ≡ 0b1100011 }
     ensures found { IfSome result (λ k. Matches (form_of k) word) }
@@ -108,6 +109,7 @@ fn branch_kind(word: u32) -> Option<Kind>
 }
 
 /// The kind of a load.
+#[inline(always)]
 fn load_kind(word: u32) -> Option<Kind>
     requires { opcode word ≡ 0b0000011 }
     ensures found { IfSome result (λ k. Matches (form_of k) word) }
@@ -124,6 +126,7 @@ fn load_kind(word: u32) -> Option<Kind>
 }
 
 /// The kind of a store.
+#[inline(always)]
 fn store_kind(word: u32) -> Option<Kind>
     requires { opcode word ≡ 0b0100011 }
     ensures found { IfSome result (λ k. Matches (form_of k) word) }
@@ -138,6 +141,7 @@ fn store_kind(word: u32) -> Option<Kind>
 }
 
 /// The kind of a computation with an immediate.
+#[inline(always)]
 fn immediate_kind(word: u32) -> Option<Kind>
     requires { opcode word ≡ 0b0010011 }
     ensures found { IfSome result (λ k. Matches (form_of k) word) }
@@ -158,6 +162,7 @@ fn immediate_kind(word: u32) -> Option<Kind>
 }
 
 /// The kind of a computation with two registers.
+#[inline(always)]
 fn register_kind(word: u32) -> Option<Kind>
     requires { opcode word ≡ 0b0110011 }
     ensures found { IfSome result (λ k. Matches (form_of k) word) }
@@ -187,6 +192,7 @@ fn register_kind(word: u32) -> Option<Kind>
 }
 
 /// The kind of a system instruction.
+#[inline(always)]
 fn system_kind(word: u32) -> Option<Kind>
     requires { opcode word ≡ 0b1110011 }
     ensures found { IfSome result (λ k. Matches (form_of k) word) }
@@ -200,6 +206,7 @@ fn system_kind(word: u32) -> Option<Kind>
 }
 
 /// The immediate of the I format: bits 11 to 0 in 31 to 20.
+#[inline(always)]
 fn i_immediate_of(word: u32) -> i32
     ensures value { result ≡ i_immediate word }
     ensures fits { IsSigned 12 result }
@@ -208,6 +215,7 @@ fn i_immediate_of(word: u32) -> i32
 }
 
 /// The immediate of the S format: bits 11 to 5 in 31 to 25, and 4 to 0 in 11 to 7.
+#[inline(always)]
 fn s_immediate_of(word: u32) -> i32
     ensures value { result ≡ s_immediate word }
     ensures fits { IsSigned 12 result }
@@ -216,6 +224,7 @@ fn s_immediate_of(word: u32) -> i32
 }
 
 /// The immediate of the B format: bit 12 in 31, 11 in 7, 10 to 5 in 30 to 25, and 4 to 1 in 11 to 8.
+#[inline(always)]
 fn b_immediate_of(word: u32) -> i32
     ensures value { result ≡ b_immediate word }
     ensures fits { IsSigned 13 result }
@@ -227,6 +236,7 @@ fn b_immediate_of(word: u32) -> i32
 }
 
 /// The immediate of the U format: bits 31 to 12 in place.
+#[inline(always)]
 fn u_immediate_of(word: u32) -> i32
     ensures value { result ≡ u_immediate word }
     ensures fits { IsSigned 32 result }
@@ -236,6 +246,7 @@ fn u_immediate_of(word: u32) -> i32
 }
 
 /// The immediate of the J format: bit 20 in 31, 19 to 12 in place, 11 in 20, and 10 to 1 in 30 to 21.
+#[inline(always)]
 fn j_immediate_of(word: u32) -> i32
     ensures value { result ≡ j_immediate word }
     ensures fits { IsSigned 21 result }

@@ -84,6 +84,7 @@ pub enum Action {
 }
 
 /// The address of the next instruction.
+#[inline(always)]
 fn following(pc: u32) -> u32
     ensures { result ≡ follow pc }
 {
@@ -91,6 +92,7 @@ fn following(pc: u32) -> u32
 }
 
 /// A branch: to the target where the test holds.
+#[inline(always)]
 fn branch_to(test: bool, target: u32) -> Action
     ensures { result ≡ branch test target }
 {
@@ -145,6 +147,7 @@ fn action_of(instr: Instr, pc: u32, first: u32, second: u32) -> Action
 }
 
 /// The instruction can't be done.
+#[inline(always)]
 fn fault(kind: FaultKind, address: u32) -> Next
     ensures { result ≡ Fault kind address }
 {
@@ -152,6 +155,7 @@ fn fault(kind: FaultKind, address: u32) -> Next
 }
 
 /// The address is a multiple of the size.
+#[inline(always)]
 fn has_alignment(size: Size, address: u32) -> bool
     ensures { result ≡ is_aligned size address }
 {
@@ -163,6 +167,7 @@ fn has_alignment(size: Size, address: u32) -> bool
 }
 
 /// What a load gives, where the whole word is `whole`.
+#[inline(always)]
 fn load_value(size: Size, sign: bool, address: u32, whole: u32) -> u32
     ensures { result ≡ load_value size sign address whole }
 {
@@ -177,6 +182,7 @@ fn load_value(size: Size, sign: bool, address: u32, whole: u32) -> u32
 }
 
 /// The word that a store leaves, where `whole` was there.
+#[inline(always)]
 fn stored_word(size: Size, address: u32, whole: u32, value: u32) -> u32
     requires { IsTrue (is_aligned size address) }
     ensures { result ≡ stored_word size address whole value }

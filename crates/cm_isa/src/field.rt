@@ -3,6 +3,7 @@ ghost use Rattle.std.specs.Prelude.{◌≡◌, ◌+◌, ◌-◌, ◌*◌, ◌^�
 ghost use Rattle.cm_isa.specs.Bits.{bits, signed};
 
 /// The number whose lowest `width` bits are 1.
+#[inline(always)]
 fn ones(width: u32) -> u32
     requires some { 0 < width }
     requires within { width ≤ 32 }
@@ -12,6 +13,7 @@ fn ones(width: u32) -> u32
 }
 
 /// Bits `low` to `high` of a word, as a number.
+#[inline(always)]
 pub(crate) fn bits_of(word: u32, high: u32, low: u32) -> u32
     requires order { low ≤ high }
     requires within { high < 32 }
@@ -22,6 +24,7 @@ pub(crate) fn bits_of(word: u32, high: u32, low: u32) -> u32
 }
 
 /// The signed number that the low `width` bits stand for.
+#[inline(always)]
 pub(crate) fn signed_of(number: u32, width: u32) -> i32
     requires some { 0 < width }
     requires within { width ≤ 32 }

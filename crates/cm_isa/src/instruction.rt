@@ -51,6 +51,7 @@ impl Instr {
     }
 
     /// The instruction with these fields, which fit.
+    #[inline(always)]
     pub(crate) fn with(kind: Kind, rd: u8, rs1: u8, rs2: u8, imm: i32) -> Instr
         requires { IsInstr (operation kind rd rs1 rs2 imm) }
         ensures { result ≡ operation kind rd rs1 rs2 imm }
@@ -65,6 +66,7 @@ impl Instr {
     }
 
     /// Its kind.
+    #[inline(always)]
     pub fn kind(self) -> Kind
         ensures value { result ≡ self.kind }
         ensures fits { IsInstr self }
@@ -73,6 +75,7 @@ impl Instr {
     }
 
     /// The destination register, or 0 where the format has none.
+    #[inline(always)]
     pub fn rd(self) -> u8
         ensures value { result ≡ self.rd }
         ensures register { result < 32 }
@@ -81,6 +84,7 @@ impl Instr {
     }
 
     /// The first source register, or 0 where the format has none.
+    #[inline(always)]
     pub fn rs1(self) -> u8
         ensures value { result ≡ self.rs1 }
         ensures register { result < 32 }
@@ -89,6 +93,7 @@ impl Instr {
     }
 
     /// The second source register, or 0 where the format has none.
+    #[inline(always)]
     pub fn rs2(self) -> u8
         ensures value { result ≡ self.rs2 }
         ensures register { result < 32 }
@@ -97,6 +102,7 @@ impl Instr {
     }
 
     /// The immediate, the amount of a shift by an immediate, or 0 where the format has none.
+    #[inline(always)]
     pub fn imm(self) -> i32
         ensures value { result ≡ self.imm }
         ensures fits { IsInstr self }

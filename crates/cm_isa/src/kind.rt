@@ -126,6 +126,7 @@ pub enum Format {
 }
 
 /// What the word of this kind fixes.
+#[inline(always)]
 pub(crate) fn format_of(kind: Kind) -> Format
     ensures value { result ≡ form_of kind }
     ensures fits { IsFormat result }

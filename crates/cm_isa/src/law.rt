@@ -5,8 +5,8 @@ ghost use Rattle.cm_isa.specs.Action.{action_at};
 ghost use Rattle.cm_isa.specs.Address.{InstructionAt};
 ghost use Rattle.cm_isa.specs.Effect.{MayAccess, outcome};
 ghost use Rattle.cm_isa.specs.Format.{Row};
-ghost use Rattle.cm_isa.specs.Machine.{IsMap, Machine, Mapped, machine_after, machine_of};
-ghost use Rattle.cm_isa.specs.Operation.{Operation};
+ghost use Rattle.cm_isa.specs.Machine.{IsMap, Machine, Mapped, StepsTo, machine_after, machine_of};
+ghost use Rattle.cm_isa.specs.Operation.{Operation, ecall};
 ghost use Rattle.cm_isa.specs.Run.{Extends, Label, Runs, machine_with_more, replies, with_more};
 ghost use Rattle.cm_isa.specs.View.{View};
 
@@ -35,12 +35,14 @@ pub fn runs_join_and_split()
 {}
 
 /// The number of steps and the replies to its calls determine a run: what it calls, and the machine that
-/// it comes to.
+/// it comes to. At an `ecall` a machine goes on by a reply alone, and stops where it gets none.
 pub fn replies_determine_runs()
-    ensures { (image : List ℕ) (first second : List Label) (m last other : Machine) →
+    ensures run { (image : List ℕ) (first second : List Label) (m last other : Machine) →
         Runs (InstructionAt image) first m last → Runs (InstructionAt image) second m other →
         length first ≡ length second → replies first ≡ replies second →
         (first ≡ second) × (last ≡ other) }
+    ensures stop { (image : List ℕ) (m next : Machine) → InstructionAt image m.counter ecall →
+        StepsTo (InstructionAt image) m next → ⊥ }
 {}
 
 /// A run is a run with further words beside its own too, and leaves those as they are: a page may be added

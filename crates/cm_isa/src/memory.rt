@@ -16,7 +16,8 @@ pub enum Shown {
 /// Words of 32 bits in places, which addresses show. Two addresses may show the same place.
 ///
 /// An instruction sees no more of it than its `view`. The `rest` is what its owner knows beside that,
-/// as the pages of its map, and neither a load nor a store changes it.
+/// as the pages of its map, and neither a load nor a store changes it. Where the words are borrowed, the
+/// name of the reference belongs to it, since a step could else leave another one there.
 pub trait Words {
     ghost use Rattle.cm_isa.specs.View.{View};
 

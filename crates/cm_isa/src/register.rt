@@ -44,6 +44,7 @@ impl Regs {
     }
 
     /// The word of a register.
+    #[inline(always)]
     pub fn get(&self, index: u8) -> u32
         requires { index < 32 }
         ensures value { result ≡ slice_index self.now index }
@@ -53,6 +54,7 @@ impl Regs {
     }
 
     /// A register takes a word; x0 stays 0.
+    #[inline(always)]
     pub fn set(&mut self, index: u8, word: u32)
         requires { index < 32 }
         ensures value { self.new ≡ put self.old index word }
