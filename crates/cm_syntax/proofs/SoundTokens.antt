@@ -11,7 +11,7 @@ use Rattle.cm_syntax.specs.Refusal.{IsTooMuch, Refusal, IsRefused}
 use Rattle.cm_syntax.specs.Limit.{max_literal, max_array_words}
 use Rattle.cm_syntax.specs.Machine.{State, goes, stops, step, start}
 use Rattle.cm_syntax.proofs.machine.TokenStep.{CountsNumber, number_counted, unfit_stops}
-use Rattle.cm_syntax.proofs.machine.Reached.{Reached, program_reached}
+use Rattle.cm_syntax.proofs.machine.takes.Reached.{Reached, program_reached}
 use Rattle.cm_syntax.proofs.Laying.{Writable, AllWritable}
 use Rattle.cm_syntax.proofs.YieldLaws.{located-append}
 

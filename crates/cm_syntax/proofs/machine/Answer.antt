@@ -15,7 +15,7 @@ use Rattle.cm_syntax.proofs.TokenLaws.{Tokens-one}
 use Rattle.cm_syntax.proofs.RefusalLaws.{token_in_front, stops_before, Syntax-one}
 use Rattle.cm_syntax.proofs.YieldLaws.{regroup, located-append, length-located}
 use Rattle.cm_syntax.proofs.OffsetLaws.{Ascend, ascend_to, tokens_ascend, offset_below, offset_order, exceeds_begins, not_later}
-use Rattle.cm_syntax.proofs.machine.Reached.{Reached, reached_on, same_front, same_counts, program_reached, begins_program, no_further, parses, is_no_program}
+use Rattle.cm_syntax.proofs.machine.takes.Reached.{Reached, reached_on, same_front, same_counts, program_reached, begins_program, no_further, parses, is_no_program}
 use Rattle.cm_syntax.proofs.machine.Run.{AllWithin, within_at, Outcome, outcome}
 
 -- the state between tokens that are taken

@@ -15,7 +15,7 @@ use Rattle.cm_syntax.specs.Yield.{Quantity, CountedToken, counted_token, operato
 use Rattle.cm_syntax.specs.Machine.{State, step, is_sign, is_word}
 use Rattle.cm_syntax.proofs.Spelling.{keyword_written, keyword_written-text, sign_written, sign_written-text, is_same-equal}
 use Rattle.cm_syntax.proofs.YieldLaws.{regroup}
-use Rattle.cm_syntax.proofs.machine.Trace.{trace, next_trace, Leads, alike}
+use Rattle.cm_syntax.proofs.machine.trace.Trace.{trace, next_trace, Leads, alike}
 
 -- ---- signs and words
 

@@ -15,10 +15,10 @@ use Rattle.cm_syntax.specs.ParseTree as grammar
 use Rattle.cm_syntax.specs.Yield.{Quantity}
 use Rattle.cm_syntax.specs.Machine.{State, Next, step, is_sign, is_word, value, value_step, call, declaration, simple_step, with_semicolon, body, for_parts, split_parts, spawned, plain_step, statement_step}
 use Rattle.cm_syntax.specs.Machine
-use Rattle.cm_syntax.proofs.machine.Written.{sign_then, word_then, name_then, call_then, any_then, optional_then, declaration_then, simple_then, first_part_then, last_part_then, plain_then}
-use Rattle.cm_syntax.proofs.machine.Wanted.{Begins, begins, Closed, closed_then, simple_name_then, AnyPlain, any_plain_then, Destination, destination_then, PlainName, plain_name_then, Otherwise, otherwise_then, Block, block_then, Continues}
-use Rattle.cm_syntax.proofs.machine.ExpressionTakes.{Enters, by_sign, by_word, BehindValue, value_begins, closed_begins, value_takes}
-use Rattle.cm_syntax.proofs.machine.StatementTakes.{BehindStatement, BehindCall, named_call, named_call_same, named_simple, named_simple_same, simple_takes, simple_name_takes, declaration_begins}
+use Rattle.cm_syntax.proofs.machine.takes.Written.{sign_then, word_then, name_then, call_then, any_then, optional_then, declaration_then, simple_then, first_part_then, last_part_then, plain_then}
+use Rattle.cm_syntax.proofs.machine.takes.Wanted.{Begins, begins, Closed, closed_then, simple_name_then, AnyPlain, any_plain_then, Destination, destination_then, PlainName, plain_name_then, Otherwise, otherwise_then, Block, block_then, Continues}
+use Rattle.cm_syntax.proofs.machine.takes.ExpressionTakes.{Enters, by_sign, by_word, BehindValue, value_begins, closed_begins, value_takes}
+use Rattle.cm_syntax.proofs.machine.takes.StatementTakes.{BehindStatement, BehindCall, named_call, named_call_same, named_simple, named_simple_same, simple_takes, simple_name_takes, declaration_begins}
 
 -- ---- an `else` belongs to the nearest `if`
 

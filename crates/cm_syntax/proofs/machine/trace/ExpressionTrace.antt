@@ -20,8 +20,8 @@ use Rattle.cm_syntax.specs.Lowering.{lower_expression, lower_any, lower_call, lo
 use Rattle.cm_syntax.specs.Refusal.{is_opening}
 use Rattle.cm_syntax.specs.Machine.{State, goes, step, whole, value, call, call_of, operator_of, operator_step, operand_step, prefix_step}
 use Rattle.cm_syntax.proofs.YieldLaws.{regroup}
-use Rattle.cm_syntax.proofs.machine.Trace.{Leads, none, one, both, passes, left}
-use Rattle.cm_syntax.proofs.machine.Front.{begins_value, other_sign, by_front, expression_begins}
+use Rattle.cm_syntax.proofs.machine.trace.Trace.{Leads, none, one, both, passes, left}
+use Rattle.cm_syntax.proofs.machine.trace.Front.{begins_value, other_sign, by_front, expression_begins}
 
 -- ---- operators
 

@@ -11,8 +11,8 @@ use Rattle.cm_syntax.specs.Grammar.{Parses, IsSourceOf}
 use Rattle.cm_syntax.specs.Machine.{State, Next, goes, stops, step, some_functions, finish, start}
 use Rattle.cm_syntax.proofs.TokenLaws.{Tokens-one}
 use Rattle.cm_syntax.proofs.YieldLaws.{regroup}
-use Rattle.cm_syntax.proofs.machine.Trace.{Trace, took, stuck, over, next_trace, trace, taken, taken-append}
-use Rattle.cm_syntax.proofs.machine.ProgramTrace.{program_leads}
+use Rattle.cm_syntax.proofs.machine.trace.Trace.{Trace, took, stuck, over, next_trace, trace, taken, taken-append}
+use Rattle.cm_syntax.proofs.machine.trace.ProgramTrace.{program_leads}
 
 -- The machine takes the tokens of a program with their counts, and comes behind its functions.
 pub program_traced : (p : grammar.Program) → trace start (located_tokens (program_tokens p)) ≡ taken (program_tokens p) (over (State.functions_next (lower_program p)))
