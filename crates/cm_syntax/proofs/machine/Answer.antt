@@ -15,13 +15,8 @@ use Rattle.cm_syntax.proofs.lexing.TokenLaw.{Tokens-one}
 use Rattle.cm_syntax.proofs.refusing.RefusalLaw.{token_in_front, stops_before, Syntax-one}
 use Rattle.cm_syntax.proofs.YieldLaw.{regroup, located-append, length-located}
 use Rattle.cm_syntax.proofs.OffsetLaw.{Ascend, ascend_to, tokens_ascend, offset_below, offset_order, exceeds_begins, not_later}
-use Rattle.cm_syntax.proofs.machine.takes.Reached.{Reached, reached_on, same_front, same_counts, program_reached, begins_program, no_further, parses, is_no_program}
+use Rattle.cm_syntax.proofs.machine.takes.Reached.{Reached, reached_on, reached_parts, same_front, same_counts, program_reached, begins_program, no_further, parses, is_no_program}
 use Rattle.cm_syntax.proofs.machine.Run.{AllWithin, within_at, Outcome, outcome}
-
--- the state between tokens that are taken
-reached_parts : (a b : List CountedToken) (s last : State) → Reached s (a ++ b) last → (middle : State) × Reached s a middle × Reached middle b last
-reached_parts [] b s last h = (s, refl, h)
-reached_parts (t ∷ a) b s last h = let more = reached_parts a b h.0 last h.2 in (more.0, (h.0, h.1, more.1), more.2)
 
 module _ (bytes : List ℕ) (front : List CountedToken) (behind : List LocatedToken) (read : Tokens 0 bytes (located_tokens front ++ behind)) (last : State) (reached : Reached start front last) where
   -- no limit is passed at a token in front

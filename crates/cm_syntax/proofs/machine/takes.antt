@@ -1,4 +1,4 @@
--- A step of the machine is a left quotient: what may follow, and what can't.
+-- A token that is taken, with what may follow the next state, may follow the state: what was taken begins a program.
 pub mod Written
 pub mod Wanted
 pub mod ExpressionTakes

@@ -26,6 +26,11 @@ pub reached_on : (a b : List CountedToken) (s next last : State) → Reached s a
 reached_on [] b s next last r more = subst (λ x. Reached x b last) (sym r) more
 reached_on (t ∷ a) b s next last r more = (r.0, r.1, reached_on a b r.0 next last r.2 more)
 
+-- the state between tokens that are taken
+pub reached_parts : (a b : List CountedToken) (s last : State) → Reached s (a ++ b) last → (middle : State) × Reached s a middle × Reached middle b last
+reached_parts [] b s last h = (s, refl, h)
+reached_parts (t ∷ a) b s last h = let more = reached_parts a b h.0 last h.2 in (more.0, (h.0, h.1, more.1), more.2)
+
 same_quantity : (q p : Quantity) (s r : State) → goes q s ≡ goes p r → q ≡ p
 same_quantity q p s r e = cc
 
@@ -80,6 +85,19 @@ program_reached p = reached_traced (program_tokens p) start (State.functions_nex
 pub same_counts : (p : grammar.Program) (before : List CountedToken) (more : List LocatedToken) (last : State) → Reached start before last → located_tokens (program_tokens p) ≡ located_tokens before ++ more →
     (rest : List CountedToken) × (program_tokens p ≡ before ++ rest) × (located_tokens rest ≡ more) × Reached last rest (State.functions_next (lower_program p))
 same_counts p before more last r e = same_front before (program_tokens p) more start last (State.functions_next (lower_program p)) r (program_reached p) e
+
+-- two programs whose tokens begin alike have the same counts there
+pub one_count : (a b : grammar.Program) (before others more rest : List CountedToken) → program_tokens a ≡ before ++ more → program_tokens b ≡ others ++ rest →
+    located_tokens before ≡ located_tokens others → before ≡ others
+one_count a b before others more rest e j same =
+    let one = reached_parts before more start (State.functions_next (lower_program a)) (subst (λ tokens. Reached start tokens (State.functions_next (lower_program a))) e (program_reached a)) in
+    let other = reached_parts others rest start (State.functions_next (lower_program b)) (subst (λ tokens. Reached start tokens (State.functions_next (lower_program b))) j (program_reached b)) in
+    let found = same_front others before [] start other.0 one.0 other.1 one.1 (same ∙ sym (append-nil (located_tokens others))) in
+    found.1 ∙ nothing_more found.0 found.2
+  where
+    nothing_more : (more : List CountedToken) → located_tokens more ≡ [] → others ++ more ≡ others
+    nothing_more [] e = append-nil others
+    nothing_more (t ∷ more) e = absurd (cc)
 
 -- no program begins with tokens that are taken and one at which the machine stops
 pub no_further : (before : List CountedToken) (t : LocatedToken) (last : State) → Reached start before last → step last t.token t.at ≡ stops → BeginsProgram (located_tokens before ++ t ∷ []) → ⊥
