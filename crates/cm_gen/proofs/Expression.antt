@@ -3,7 +3,7 @@ use Rattle.cm_isa.specs.declared.convention.TheConstants as reg
 use Rattle.std.proofs.Common.{◌≡◌, ◌≢◌, ℕ, ◌+◌, ◌-◌, ◌*◌, ◌%◌, ◌^◌, ◌<◌, ◌≤◌, List, [], ◌∷◌, ◌++◌, length, Option, None, Some, refl, sym, ap, ◌∙◌, subst, arith, rules, length-append, eq-eqb}
 use Rattle.std.proofs.lemmas.Bool.{ne_eqb}
 use Rattle.std.proofs.lemmas.Int.{ints}
-use Rattle.std.proofs.lemmas.Option.{none-some}
+use Rattle.std.proofs.lemmas.Option.{none-some, same_Some}
 use Rattle.std.specs.Prelude.{true, false, ◌==◌, if◌then◌else◌, ℤ, pos, neg_ℤ, ◌+ℤ◌, FitsSigned, IsSome, option_and_then}
 use Rattle.std.specs.Int.{w32, cast_unsigned}
 use Rattle.cm_isa.specs.Operation.{Operation}
@@ -26,9 +26,6 @@ use Rattle.cm_gen.proofs.PatternLaw.{Sets, Puts, load_number_runs, store_slot_ru
 
 -- ---- values
 
-same_value : (a b : ℤ) → Some a ≡ Some b → a ≡ b
-same_value a b e = cc
-
 -- an operation has a value only where both operands have one
 both_some : (f : ℤ → ℤ → Option ℤ) (x y : Option ℤ) (v : ℤ) → option_and_then (λ a. option_and_then (λ b. f a b) y) x ≡ Some v
     → (a : ℤ) × (b : ℤ) × (x ≡ Some a) × (y ≡ Some b) × (f a b ≡ Some v)
@@ -37,26 +34,14 @@ both_some f (Some a) None v e = absurd (none-some v e)
 both_some f (Some a) (Some b) v e = (a, b, refl, refl, e)
 
 combined_fits : (op : Op) (a b v : ℤ) → apply_operator op a b ≡ Some v → FitsSigned w32 v
-combined_fits Mul a b v e = subst (FitsSigned w32) (same _ v e) (words.wrapped_fits _)
-  where
-    same : (x v : ℤ) → Some x ≡ Some v → x ≡ v
-    same x v e = cc
-combined_fits Add a b v e = subst (FitsSigned w32) (same _ v e) (words.wrapped_fits _)
-  where
-    same : (x v : ℤ) → Some x ≡ Some v → x ≡ v
-    same x v e = cc
-combined_fits Sub a b v e = subst (FitsSigned w32) (same _ v e) (words.wrapped_fits _)
-  where
-    same : (x v : ℤ) → Some x ≡ Some v → x ≡ v
-    same x v e = cc
+combined_fits Mul a b v e = subst (FitsSigned w32) (same_Some _ v e) (words.wrapped_fits _)
+combined_fits Add a b v e = subst (FitsSigned w32) (same_Some _ v e) (words.wrapped_fits _)
+combined_fits Sub a b v e = subst (FitsSigned w32) (same_Some _ v e) (words.wrapped_fits _)
 combined_fits _ a b v e = absurd (none-some v e)
 
 -- the value of an expression is a word
 pub value_fits : (e : Expr ℕ) (v : ℤ) → IsClosed e → value_of e ≡ Some v → FitsSigned w32 v
-value_fits (Number n) v closed means = subst (FitsSigned w32) (same n v means) closed.0
-  where
-    same : (x v : ℤ) → Some x ≡ Some v → x ≡ v
-    same x v e = cc
+value_fits (Number n) v closed means = subst (FitsSigned w32) (same_Some n v means) closed.0
 value_fits (Joined op left right) v closed means =
     let parts = both_some (apply_operator op) (value_of left) (value_of right) v means in
     combined_fits op parts.0 parts.1 v parts.4
@@ -273,7 +258,7 @@ module _ (code : Code) where
   pub evaluate_runs : (slots : ℕ) (e : Expr ℕ) (d limit f : ℕ) (v : ℤ) → IsClosed e → value_of e ≡ Some v → temporaries e d ≤ limit → HasRoom f slots limit
       → Gives (evaluate slots e d) slots d limit f v
   evaluate_runs slots (Number n) d limit f v closed means enough room = λ m zero_is frame mapped bound code_is.
-      let same : n ≡ v = same_value n v means in
+      let same : n ≡ v = same_Some n v means in
       let set = load_number_runs code reg.VALUE n m refl zero_is closed.0 (omega arith) code_is in (
         set.0,
         set.1,

@@ -1,7 +1,7 @@
 -- What each pattern of the code does: the machine comes from the pattern's address to the address after it.
 use Rattle.cm_isa.specs.declared.convention.TheConstants as reg
-use Rattle.std.proofs.Common.{◌≡◌, ℕ, ◌+◌, ◌*◌, ◌%◌, ◌^◌, ◌<◌, [], ◌∷◌, length, Option, None, Some, refl, sym, ap, ◌∙◌, subst, arith}
-use Rattle.std.proofs.lemmas.Option.{none-some}
+use Rattle.std.proofs.Common.{◌≡◌, ℕ, ◌+◌, ◌*◌, ◌%◌, ◌^◌, ◌<◌, [], ◌∷◌, length, Option, Some, refl, sym, ap, ◌∙◌, subst, arith}
+use Rattle.std.proofs.lemmas.Option.{none-some, same_Some}
 use Rattle.std.specs.Prelude.{Bool, true, false, ◌==◌, if◌then◌else◌, ℤ, ◌+ℤ◌, ◌-ℤ◌, ◌*ℤ◌, FitsSigned}
 use Rattle.std.specs.Int.{w32, cast_unsigned}
 use Rattle.cm_isa.specs.Operation.{Operation}
@@ -30,9 +30,6 @@ pub record Puts (a v bytes : ℕ) (m t : Machine) : Type 0 where
   pub counter : t.counter ≡ m.counter + bytes
   pub kept : (q : ℕ) → (q == reg.HELP) ≡ false → t.registers q ≡ m.registers q
   pub words : t.words ≡ with_word m.words a v
-
-same_value : (a b : ℤ) → Some a ≡ Some b → a ≡ b
-same_value a b e = cc
 
 module _ (code : Code) where
   -- an instruction that sets a register
@@ -201,7 +198,7 @@ module _ (code : Code) where
       joined f e =
           ap (λ u. word (f (int u) (int (m.registers reg.VALUE)))) six ∙ ap (λ u. word (f (int (cast_unsigned w32 left)) (int u))) five
           ∙ ap (λ u. word (f u (int (cast_unsigned w32 right)))) (words.int-cast_unsigned left fits_left) ∙ ap (λ u. word (f left u)) (words.int-cast_unsigned right fits_right)
-          ∙ sym (words.cast_unsigned-wrap (f left right)) ∙ ap (cast_unsigned w32) (same_value (wrap (f left right)) value e)
+          ∙ sym (words.cast_unsigned-wrap (f left right)) ∙ ap (cast_unsigned w32) (same_Some (wrap (f left right)) value e)
 
       next : ℕ → Option Machine
       next v = Some (machine_with m (with_register m.registers reg.VALUE v) (follow m.counter))

@@ -2,7 +2,7 @@
 use Rattle.cm_isa.specs.Bits.{minus}
 use Rattle.cm_isa.specs.declared.convention.TheConstants as reg
 use Rattle.std.proofs.Common.{◌≡◌, ℕ, ◌+◌, ◌-◌, ◌*◌, ◌%◌, ◌^◌, ◌<◌, ◌≤◌, List, [], ◌∷◌, ◌++◌, length, Option, Some, refl, sym, ap, ◌∙◌, subst, arith, length-append}
-use Rattle.std.specs.Prelude.{true, false, if◌then◌else◌, ℤ, pos, negsuc, ◌+ℤ◌, FitsSigned, IsSome, option_and_then}
+use Rattle.std.specs.Prelude.{true, false, if◌then◌else◌, ℤ, pos, ◌+ℤ◌, FitsSigned, IsSome, option_and_then}
 use Rattle.std.specs.Int.{w32, cast_unsigned}
 use Rattle.cm_isa.specs.Operation.{Operation, ecall}
 use Rattle.cm_isa.specs.Alu.{int, word, offset}
