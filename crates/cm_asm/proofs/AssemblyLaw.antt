@@ -1,17 +1,15 @@
 -- Laws of items: addresses, first labels, words and refusals.
-use Rattle.std.proofs.Common.{◌≡◌, ◌≢◌, ℕ, suc, ◌+◌, ◌*◌, ◌%◌, ◌^◌, ◌<◌, ◌≤◌, Bool, true, false, cond, not, eqb, ltb, List, [], ◌∷◌, ◌++◌, length, get_or, take, Option, Some, None, Result, Ok, Err, IsSome, IfSome, option_to_list, MatchOption, slice_get, refl, ap, sym, subst, ◌∙◌, append_assoc, arith, ⊎_elim, pos, ◌-ℤ◌, ℤ}
+use Rattle.std.proofs.Common.{◌≡◌, ◌≢◌, ℕ, suc, ◌+◌, ◌*◌, ◌%◌, ◌^◌, ◌<◌, ◌≤◌, Bool, true, false, cond, eqb, List, [], ◌∷◌, ◌++◌, length, get_or, take, Option, Some, None, Result, Ok, Err, IsSome, IfSome, option_to_list, MatchOption, slice_get, refl, ap, sym, subst, ◌∙◌, append_assoc, arith, ⊎_elim, pos, ◌-ℤ◌, ℤ}
 use Rattle.std.specs.List.{position, position_or_len, sum_by}
 use Rattle.std.specs.Option.{option_or, option_map}
 use Rattle.indexmap.specs.IndexMap.{IndexMap, get}
-use Rattle.std.proofs.lemmas.Bool.{cases_lt, cases_order, both_ways, false≢true, lt-ltb, le-ltb, eq-eqb, ne_eqb, cond-true, cond-false}
+use Rattle.std.proofs.lemmas.Bool.{cases_lt, cases_order, both_ways, eq-eqb}
 use Rattle.std.proofs.lemmas.Bool.Decides.{nat_tests}
-use Rattle.std.proofs.lemmas.List.{append-nil, length_push, length-take, length-take-le, get_or-take, take_more}
-use Rattle.std.proofs.lemmas.List.Sums.{sum_by-cons, sum_by_more, prefix_len-le-length, position_or_len_is, fails_before_first}
-use Rattle.std.proofs.lemmas.List.Folds.{position_or_len_push}
+use Rattle.std.proofs.lemmas.List.{append-nil, length_push, length-take-le, get_or-take}
+use Rattle.std.proofs.lemmas.List.Sums.{sum_by-cons, sum_by_more, position_or_len_is}
 use Rattle.std.proofs.lemmas.List.Quantifiers.{position-Some}
 use Rattle.std.proofs.lemmas.Option.{slice_get_within, slice_get-get_or, slice_get_past, get_or_from_slice_get}
 use Rattle.cm_isa.specs.Bits.{IsSigned}
-use Rattle.cm_isa.specs.Format.{Row}
 use Rattle.cm_isa.specs.Operation.{Operation, operation}
 use Rattle.cm_isa.specs.Address.{AreWordsOf}
 use Rattle.cm_isa.specs.declared.kind.Kind.{Kind}

@@ -1,6 +1,6 @@
 -- Laws of a line that is read: how far a text and the lines of one address go together.
 use Rattle.std.proofs.Common.{◌≡◌, ◌≢◌, ℕ, zero, suc, ◌+◌, ◌-◌, ◌*◌, ◌/◌, ◌%◌, ◌^◌, ◌<◌, ◌≤◌, List, [], ◌∷◌, ◌++◌, length, get_or, take, drop, refl, sym, subst, ◌∙◌, append_assoc, arith, length-append, lit<, ⊎_elim}
-use Rattle.std.proofs.lemmas.List.{append-nil, length_push, length-drop, get_or_append_left, get_or-append_right, get_or_push, get_or_at, get_or-drop, take-append-le, take-append-drop, take-take, drop-take, take_at, take_all, take_more}
+use Rattle.std.proofs.lemmas.List.{append-nil, length_push, length-drop, get_or_append_left, get_or-append_right, get_or_push, get_or_at, get_or-drop, take-append-le, take_at, take_all, take_more}
 use Rattle.std.proofs.lemmas.Bool.{cases_lt}
 use Rattle.std.proofs.Math.Nat.{pow-le-pow_right}
 use Rattle.cm_asm.specs.Listing.{hex_digit, hex, line}

@@ -11,7 +11,7 @@ use Rattle.cm_isa.specs.declared.execution.Size.{Size}
 use Rattle.cm_isa.specs.declared.execution.Action.{Action}
 use Rattle.cm_isa.specs.declared.execution.Action.TheVariants.{Sets, Passes, Goes, Links, Loads, Stores, Serves, Breaks}
 use Rattle.cm_isa.specs.Action.{kind_action, branch, action_at, follow}
-use Rattle.cm_isa.specs.Effect.{Cell, word_in, no_page, nothing, Change, Outcome, goes_on, stops, load_change, store_change, action_change, cell_at, outcome, is_aligned, MayAccess}
+use Rattle.cm_isa.specs.Effect.{Cell, word_in, no_page, nothing, Change, stops, load_change, store_change, action_change, cell_at, is_aligned, MayAccess}
 use Rattle.cm_isa.specs.Machine.{Machine, StepsTo, IsMap, machine_of, machine_after}
 use Rattle.cm_isa.specs.Run.{Label, silent, call, replied_machine, LabelledStep}
 use Rattle.cm_isa.specs.declared.kind.Kind.{Kind}
@@ -24,7 +24,7 @@ use Rattle.cm_isa.proofs.Image.{image_is_one, rd_below}
 use Rattle.cm_hart.specs.declared.hart.Hart.{Hart}
 use Rattle.cm_hart.specs.declared.hart.Halt.{Halt}
 use Rattle.cm_hart.specs.declared.hart.Halt.TheVariants.{Going, Service, PageFault, Fault}
-use Rattle.cm_hart.specs.Step.{halt_of, hart_after, hart_machine, hart_outcome, pc_after, HasHartOutcome, MayStep}
+use Rattle.cm_hart.specs.Step.{halt_of, hart_machine, hart_outcome, pc_after, HasHartOutcome, MayStep}
 
 -- what an answer tells of the action, where x31 has this word: a service is asked for, and a fault of a jump has an address that is no multiple of 4
 abbrev Tells : Action → (x31 : ℕ) → Halt → Type 0

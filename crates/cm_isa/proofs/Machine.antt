@@ -1,5 +1,5 @@
 -- The machine of registers in a list and words in places takes the step that the outcome of the instruction says, and no other.
-use Rattle.std.proofs.Common.{◌≡◌, ◌≢◌, ℕ, ◌-◌, ◌%◌, ◌<◌, List, length, Option, None, Some, refl, sym, ap, ◌∙◌, subst, arith, inl, inr, eq-eqb, length-set}
+use Rattle.std.proofs.Common.{◌≡◌, ◌≢◌, ℕ, ◌%◌, ◌<◌, List, length, Option, None, Some, refl, sym, ap, ◌∙◌, subst, arith, inl, inr, eq-eqb, length-set}
 use Rattle.std.proofs.lemmas.Bool.Decides.{eqb_tells}
 use Rattle.std.proofs.lemmas.List.{get_or-set_same, get_or-set_other}
 use Rattle.std.proofs.lemmas.Option.{none-some, same_Some}
@@ -7,9 +7,9 @@ use Rattle.std.specs.Prelude.{Bool, true, false, ◌==◌, if◌then◌else◌, 
 use Rattle.cm_isa.specs.Operation.{Operation}
 use Rattle.cm_isa.specs.Register.{put, put_result, with_register, with_result}
 use Rattle.cm_isa.specs.View.{View, with_place}
-use Rattle.cm_isa.specs.Action.{Size, Action, Sets, Passes, Goes, Links, Loads, Stores, Serves, Breaks, follow, action_at}
-use Rattle.cm_isa.specs.Effect.{Cell, word_in, no_page, nothing, Change, goes_on, stops, load_change, store_change, action_change, cell_at, shown_cell, put_write, outcome, is_aligned, load_value, stored_word, MayAccess}
-use Rattle.cm_isa.specs.Machine.{Mapped, Machine, with_word, with_write, word_address, word_cell, mapped_cell, next_machine, change_machine, action_machine, machine_after, allowed_word, shown_word, view_words, machine_of, IsMap}
+use Rattle.cm_isa.specs.Action.{Size, Action, Sets, Passes, Goes, Links, Loads, Stores, Serves, Breaks, action_at}
+use Rattle.cm_isa.specs.Effect.{Change, goes_on, stops, load_change, store_change, action_change, cell_at, shown_cell, put_write, outcome, is_aligned, stored_word, MayAccess}
+use Rattle.cm_isa.specs.Machine.{Machine, with_word, with_write, word_address, word_cell, mapped_cell, next_machine, machine_after, allowed_word, shown_word, view_words, machine_of, IsMap}
 use Rattle.cm_isa.specs.declared.memory.Shown.{Shown}
 use Rattle.cm_isa.specs.declared.memory.Shown.TheVariants as shown
 use Rattle.cm_isa.specs.declared.execution.FaultKind.{FaultKind}

@@ -1,14 +1,14 @@
 -- Runs of a machine join and split, are determined by the replies, and are runs over more words too.
-use Rattle.std.proofs.Common.{◌≡◌, ◌≢◌, ℕ, suc, ◌+◌, ◌-◌, ◌%◌, List, [], ◌∷◌, ◌++◌, length, Option, None, Some, refl, sym, ap, ◌∙◌, subst, arith, inl, inr}
+use Rattle.std.proofs.Common.{◌≡◌, ℕ, ◌%◌, List, [], ◌∷◌, ◌++◌, length, Option, None, Some, refl, sym, ap, ◌∙◌, subst, arith, inl, inr}
 use Rattle.std.proofs.lemmas.Bool.Decides.{eqb_tells}
 use Rattle.std.proofs.lemmas.Option.{none-some, same_Some}
-use Rattle.std.specs.Prelude.{Bool, true, false, ◌==◌, if◌then◌else◌, ◌⊎◌, is_some}
+use Rattle.std.specs.Prelude.{Bool, true, false, ◌==◌, if◌then◌else◌, is_some}
 use Rattle.cm_isa.specs.Operation.{Operation, ecall}
 use Rattle.cm_isa.specs.Register.{with_result}
-use Rattle.cm_isa.specs.Action.{Size, Action, Sets, Passes, Goes, Links, Loads, Stores, Serves, Breaks, follow, action_at}
-use Rattle.cm_isa.specs.Effect.{Change, goes_on, stops, load_change, store_change, action_change, is_aligned, stored_word}
+use Rattle.cm_isa.specs.Action.{Size, Action, Sets, Passes, Goes, Links, Loads, Stores, Serves, Breaks, action_at}
+use Rattle.cm_isa.specs.Effect.{Change, load_change, store_change, action_change, is_aligned}
 use Rattle.cm_isa.specs.Machine.{Mapped, Machine, Code, StepsTo, with_word, with_write, word_address, word_cell, mapped_cell, next_machine, machine_after}
-use Rattle.cm_isa.specs.Run.{Call, call_of, replied_machine, Label, silent, call, LabelledStep, Runs, replies, word_or, with_more, machine_with_more, Extends}
+use Rattle.cm_isa.specs.Run.{call_of, replied_machine, Label, silent, call, LabelledStep, Runs, replies, word_or, with_more, machine_with_more, Extends}
 use Rattle.cm_isa.specs.declared.execution.FaultKind.{FaultKind}
 use Rattle.cm_isa.specs.declared.execution.FaultKind.TheVariants as faults
 use Rattle.cm_isa.specs.declared.execution.Next.{Next}

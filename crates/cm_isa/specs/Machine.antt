@@ -5,7 +5,7 @@ use Rattle.cm_isa.specs.Register.{with_result}
 use Rattle.cm_isa.specs.View.{View}
 use Rattle.cm_isa.specs.Operation.{Operation}
 use Rattle.cm_isa.specs.Action.{Action, action_at}
-use Rattle.cm_isa.specs.Effect.{Cell, word_in, no_page, nothing, Change, action_change, cell_at}
+use Rattle.cm_isa.specs.Effect.{Cell, word_in, nothing, Change, action_change}
 use Rattle.cm_isa.specs.declared.memory.Shown.{Shown}
 use Rattle.cm_isa.specs.declared.memory.Shown.TheVariants as shown
 use Rattle.cm_isa.specs.declared.execution.Next.{Next}

@@ -1,5 +1,5 @@
 -- What a step's answers tell, from what the effect of the fetched instruction is.
-use Rattle.std.proofs.Common.{◌≡◌, List, ℕ, sym, subst}
+use Rattle.std.proofs.Common.{List, ℕ, sym, subst}
 use Rattle.cm_isa.specs.Operation.{ecall}
 use Rattle.cm_isa.specs.Address.{InstructionAt}
 use Rattle.cm_hart.proofs.Outcome.{Answers, going_answers, jump_answers, machine_answers, service_answers}

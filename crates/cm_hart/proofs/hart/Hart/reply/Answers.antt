@@ -1,4 +1,4 @@
-use Rattle.std.proofs.Common.{◌≡◌, Option, Some, None, ap, refl, sym, ◌∙◌, ℕ}
+use Rattle.std.proofs.Common.{◌≡◌, Option, None, ap, refl, sym, ◌∙◌, ℕ}
 use Rattle.cm_isa.specs.Action.{follow}
 use Rattle.cm_isa.specs.Run.{replied_machine}
 use Rattle.cm_hart.specs.Step.{hart_machine}
