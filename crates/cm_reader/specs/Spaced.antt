@@ -7,8 +7,10 @@ use Rattle.cm_syntax.specs.declared.token.Sign.TheVariants as sign
 use Rattle.cm_syntax.specs.declared.expr.Mark.{Mark}
 use Rattle.cm_syntax.specs.declared.expr.Expr.{Expr}
 use Rattle.cm_syntax.specs.declared.stmt.Stmt.{Stmt}
+use Rattle.cm_syntax.specs.declared.stmt.Stmt.TheVariants as statement
+use Rattle.cm_syntax.specs.Shape.{ForLoop}
 use Rattle.cm_syntax.specs.Token.{Token}
-use Rattle.cm_syntax.specs.Canonical.{token_text, sign_token, word_token, name_token, simple_text, optional_text, expression_text, body_text}
+use Rattle.cm_syntax.specs.Canonical.{token_text, sign_token, word_token, name_token, simple_text, optional_text, condition_text, expression_text, body_text}
 
 -- the texts of the tokens, with a space behind each
 abbrev pub spaced : List Token → List ℕ
@@ -35,3 +37,11 @@ abbrev pub parts : (whole : Mark Name) → Expr Name → (left right : Mark Name
 parts whole place left right =
     word_token keyword.Split ∷ name_token whole ∷ word_token keyword.At ∷
     (expression_text place ++ (word_token keyword.As ∷ name_token left ∷ sign_token sign.Comma ∷ name_token right ∷ []))
+
+-- what stands in front of the bodies or the block of a statement
+abbrev pub head : Stmt Name → List Token
+head (statement.If' test _ _ _) = condition_text keyword.If test
+head (statement.While' test _ _) = condition_text keyword.While test
+head (ForLoop first test step body) = turns first test step
+head (statement.Split' whole place left right _ _ _) = parts whole place left right
+head _ = []

@@ -12,14 +12,13 @@ ghost use Rattle.cm_syntax.specs.declared.stmt.Target.TheVariants as targets;
 ghost use Rattle.cm_syntax.specs.declared.stmt.Stmt.TheVariants as statements;
 ghost use Rattle.cm_syntax.specs.declared.token.Keyword.TheVariants as keywords;
 ghost use Rattle.cm_syntax.specs.declared.token.Sign.TheVariants as signs;
-ghost use Rattle.cm_reader.specs.Spaced.{spaced, comma, block, turns, parts};
+ghost use Rattle.cm_reader.specs.Spaced.{spaced, comma, block, head, turns, parts};
 
 use crate::spelling::{assign_sign, keyword_text, level_of, sign_of, sign_text};
 use cm_syntax::{
     Arg, Call, Expr, Function, Item, Keyword, Mark, Name, Sign, Slot, Stmt, Target, Tree,
 };
 use cm_text::{Bytes, Memory};
-use sqlite_items::Boxed;
 use std::alloc::Global;
 
 /// The canonical text of a tree: its tokens in the order of the grammar with one space between two. An index by the
@@ -111,35 +110,22 @@ fn put_block(text: &mut Bytes, body: &[Stmt<Name>]) -> Result<(), Memory>
 fn put_statement(text: &mut Bytes, statement: &Stmt<Name>) -> Result<(), Memory>
     ensures { OnOk result (text.new ≡ text.old ++ spaced (canonical.statement_text statement.now)) }
 {
+    put_head(text, statement)?;
     match statement {
-        Stmt::If { test, then, other } => put_if(text, test, then, other),
-        Stmt::While { test, body } => {
-            put_condition(text, Keyword::While, test)?;
-            put_statement(text, body.get())?;
-            Ok(())
+        Stmt::If { then, other, .. } => {
+            put_statement(text, then.get())?;
+            match other {
+                None => Ok(()),
+                Some(other) => {
+                    put_word(text, Keyword::Else)?;
+                    put_statement(text, other.get())?;
+                    Ok(())
+                }
+            }
         }
-        Stmt::For {
-            first,
-            test,
-            step,
-            body,
-        } => {
-            put_turns(text, first.get(), test, step.get())?;
-            put_statement(text, body.get())?;
-            Ok(())
-        }
-        Stmt::Split {
-            whole,
-            place,
-            left,
-            right,
-            body,
-            ..
-        } => {
-            put_parts(text, whole, place, left, right)?;
-            put_block(text, body.items())?;
-            Ok(())
-        }
+        Stmt::While { body, .. } => put_statement(text, body.get()),
+        Stmt::For { body, .. } => put_statement(text, body.get()),
+        Stmt::Split { body, .. } => put_block(text, body.items()),
         Stmt::Block(body) => put_block(text, body.items()),
         Stmt::Spawn { target, call, .. } => put_spawn(text, target, call),
         Stmt::Sync { .. } => put_sync(text),
@@ -153,23 +139,28 @@ fn put_statement(text: &mut Bytes, statement: &Stmt<Name>) -> Result<(), Memory>
     }
 }
 
-/// Puts an `if` last, with its `else` where it has one.
-#[cycle(statement)]
-fn put_if(
-    text: &mut Bytes,
-    test: &Expr<Name>,
-    chosen: &Boxed<Stmt<Name>>,
-    other: &Option<Boxed<Stmt<Name>>>,
-) -> Result<(), Memory>
-    ensures { OnOk result (text.new ≡ text.old ++ spaced (canonical.statement_text (statements.If test.now chosen.now other.now))) }
+/// Puts what stands in front of the bodies or the block of a statement last.
+fn put_head(text: &mut Bytes, statement: &Stmt<Name>) -> Result<(), Memory>
+    ensures { OnOk result (text.new ≡ text.old ++ spaced (head statement.now)) }
 {
-    put_condition(text, Keyword::If, test)?;
-    put_statement(text, chosen.get())?;
-    if let Some(other) = other {
-        put_word(text, Keyword::Else)?;
-        put_statement(text, other.get())?;
+    match statement {
+        Stmt::If { test, .. } => put_condition(text, Keyword::If, test),
+        Stmt::While { test, .. } => put_condition(text, Keyword::While, test),
+        Stmt::For {
+            first,
+            test,
+            step,
+            ..
+        } => put_turns(text, first.get(), test, step.get()),
+        Stmt::Split {
+            whole,
+            place,
+            left,
+            right,
+            ..
+        } => put_parts(text, whole, place, left, right),
+        _ => Ok(()),
     }
-    Ok(())
 }
 
 /// Puts a word last, and an expression between parentheses.
@@ -182,7 +173,12 @@ fn put_condition(text: &mut Bytes, keyword: Keyword, test: &Expr<Name>) -> Resul
 }
 
 /// Puts what stands in front of the body of a `for` last.
-fn put_turns(text: &mut Bytes, first: &Stmt<Name>, test: &Option<Expr<Name>>, step: &Stmt<Name>) -> Result<(), Memory>
+fn put_turns(
+    text: &mut Bytes,
+    first: &Stmt<Name>,
+    test: &Option<Expr<Name>>,
+    step: &Stmt<Name>,
+) -> Result<(), Memory>
     ensures { OnOk result (text.new ≡ text.old ++ spaced (turns first.now test.now step.now)) }
 {
     put_word(text, Keyword::For)?;
@@ -218,7 +214,11 @@ fn put_parts(
 }
 
 /// Puts a spawn last.
-fn put_spawn(text: &mut Bytes, destination: &Option<Mark<Name>>, call: &Call<Name>) -> Result<(), Memory>
+fn put_spawn(
+    text: &mut Bytes,
+    destination: &Option<Mark<Name>>,
+    call: &Call<Name>,
+) -> Result<(), Memory>
     ensures { (at : ℕ) → OnOk result (text.new ≡ text.old ++ spaced (canonical.statement_text (statements.Spawn at destination.now call.now))) }
 {
     if let Some(name) = destination {
