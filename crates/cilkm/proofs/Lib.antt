@@ -1,6 +1,6 @@
-pub mod Tokens
-pub mod Chains
-pub mod Form
-pub mod Once
+pub mod TokenLaws
+pub mod ChainLaws
+pub mod FormLaws
+pub mod OneTree
 pub mod HartLaws
 pub mod StillLaws

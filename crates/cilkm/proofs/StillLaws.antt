@@ -1,7 +1,7 @@
 -- From the machine's run to the verdict, and from the verdict to the status.
-use Rattle.std.proofs.Common.{◌≡◌, ℕ, ◌<◌, ◌≤◌, ◌^◌, List, [], ◌∷◌, length, Option, Some, None, refl, sym, ap, ◌∙◌, subst, arith, rules, inl, inr}
-use Rattle.std.specs.Prelude.{ℤ, ◌⊎◌, IfSome, Contains}
-use Rattle.cm_text.specs.Counts.{Rose}
+use Rattle.std.proofs.Common.{◌≡◌, ℕ, ◌<◌, ◌≤◌, ◌^◌, List, length, Option, Some, None, refl, sym, ◌∙◌, subst, arith, rules, inl, inr}
+use Rattle.std.specs.Prelude.{ℤ, ◌⊎◌, IfSome}
+use Rattle.cm_text.specs.Count.{Rose}
 use Rattle.cm_syntax.specs.declared.expr.Expr.{Expr}
 use Rattle.cm_syntax.specs.Expr.{value_of, operator_count, IsClosed}
 use Rattle.cm_gen.specs.Code.{frame_bytes}
@@ -9,14 +9,15 @@ use Rattle.cm_gen.specs.Run.{Ends, RunsTo}
 use Rattle.cm_gen.proofs.Program.{few_temporaries}
 use Rattle.cilkm.specs.First.{IsFirstForm}
 use Rattle.cilkm.specs.Stack.{start_machine}
+use Rattle.cilkm.specs.Run.{Run, IsRunOf}
 use Rattle.cilkm.specs.declared.command.Command.{Command}
 use Rattle.cilkm.specs.declared.command.Command.TheVariants.{Serial}
 use Rattle.cilkm.specs.declared.verdict.Refusal.TheVariants.{Syntax}
 use Rattle.cilkm.specs.declared.verdict.Verdict.{Verdict}
 use Rattle.cilkm.specs.declared.verdict.Verdict.TheVariants.{Usage, Read, Long, Refused, Value, Memory}
-use Rattle.cilkm.specs.Verdict.{verdict_status, Means, IsCaused, Says, Tells}
+use Rattle.cilkm.specs.Verdict.{Means, IsCaused, Says, BreaksOff, Tells}
 use Rattle.cilkm.proofs.HartLaws.{stack_start}
-use Rattle.cilkm.proofs.Once.{one_form}
+use Rattle.cilkm.proofs.OneTree.{one_form}
 
 -- a program that runs to a value does so from the start that the settings give
 pub runs_from_start : (image : List ℕ) (e : Expr ℕ) (stack : List ℕ) → length stack ≡ 65536 → IsClosed e → operator_count e ≤ 64 → RunsTo image e
@@ -28,57 +29,51 @@ runs_from_start image e stack size closed few runs =
     (runs.0, runs.1, ran.0, ran.1, ran.2)
 
 -- what the bytes mean is the cause, where they are those that the source told
-pub caused_by : (verdict : Verdict) (bytes : List ℕ) (input : Option (List ℕ)) (before now : ℕ) → Means (Some Serial) bytes verdict
+pub cause_from_bytes : (verdict : Verdict) (bytes : List ℕ) (input : Option (List ℕ)) (before now : ℕ) → Means (Some Serial) bytes verdict
     → IfSome input (λ told. bytes ≡ told) → IsCaused (Some Serial) input before now verdict
-caused_by Usage bytes input before now means told = absurd means
-caused_by Read bytes input before now means told = absurd means
-caused_by Memory bytes input before now means told = tt
-caused_by Long bytes None before now means told = (search rules, tt)
-caused_by Long bytes (Some all) before now means told = (search rules, subst (λ b. Means (Some Serial) b Long) told means)
-caused_by (Refused place Syntax) bytes None before now means told = (search rules, tt)
-caused_by (Refused place Syntax) bytes (Some all) before now means told = (search rules, subst (λ b. Means (Some Serial) b (Refused place Syntax)) told means)
-caused_by (Value n) bytes None before now means told = (search rules, tt)
-caused_by (Value n) bytes (Some all) before now means told = (search rules, subst (λ b. Means (Some Serial) b (Value n)) told means)
+cause_from_bytes Usage bytes input before now means told = absurd means
+cause_from_bytes Read bytes input before now means told = absurd means
+cause_from_bytes Memory bytes input before now means told = tt
+cause_from_bytes Long bytes None before now means told = (search rules, tt)
+cause_from_bytes Long bytes (Some all) before now means told = (search rules, subst (λ b. Means (Some Serial) b Long) told means)
+cause_from_bytes (Refused offset Syntax) bytes None before now means told = (search rules, tt)
+cause_from_bytes (Refused offset Syntax) bytes (Some all) before now means told = (search rules, subst (λ b. Means (Some Serial) b (Refused offset Syntax)) told means)
+cause_from_bytes (Value run) bytes None before now means told = (search rules, tt)
+cause_from_bytes (Value run) bytes (Some all) before now means told = (search rules, subst (λ b. Means (Some Serial) b (Value run)) told means)
 
--- the statuses that are told
-status_of : (verdict : Verdict) → Contains (0 ∷ 1 ∷ 2 ∷ 5 ∷ 6 ∷ 7 ∷ 8 ∷ []) (verdict_status verdict)
-status_of (Value n) = (0, omega arith, refl)
-status_of (Refused place Syntax) = (1, omega arith, refl)
-status_of Usage = (2, omega arith, refl)
-status_of Read = (3, omega arith, refl)
-status_of Memory = (5, omega arith, refl)
-status_of Long = (6, omega arith, refl)
-
-pub statuses : (verdict : Verdict) (status : ℕ) (old new : Option (List ℕ)) (before now : ℕ) → Tells verdict status old new before now
-    → Contains (0 ∷ 1 ∷ 2 ∷ 5 ∷ 6 ∷ 7 ∷ 8 ∷ []) status
-statuses verdict status old new before now (said, which, inl says) = subst (Contains (0 ∷ 1 ∷ 2 ∷ 5 ∷ 6 ∷ 7 ∷ 8 ∷ [])) (sym says.status_is) (status_of said)
-statuses verdict status old new before now (said, which, inr breaks) =
-    subst (Contains (0 ∷ 1 ∷ 2 ∷ 5 ∷ 6 ∷ 7 ∷ 8 ∷ [])) (sym breaks.status_is) (4, omega arith, refl)
+-- what was said has its cause too, since want of memory needs none
+pub answer_with_cause : (verdict : Verdict) (status : ℕ) (command : Option Command) (input old new : Option (List ℕ)) (before now sink_before sink_now : ℕ)
+    → IsCaused command input before now verdict → Tells verdict status old new sink_before sink_now
+    → (said : Verdict) × IsCaused command input before now said × (Says said status old new ⊎ BreaksOff said status old new sink_before sink_now)
+answer_with_cause verdict status command input old new before now sink_before sink_now caused (said, inl same, told) =
+    (said, subst (IsCaused command input before now) (sym same) caused, told)
+answer_with_cause verdict status command input old new before now sink_before sink_now caused (said, inr memory, told) =
+    (said, subst (IsCaused command input before now) (sym memory) tt, told)
 
 -- ---- a source of the form
 
 module _ (input : List ℕ) (e : Expr ℕ) (form : IsFirstForm input e) where
   -- its verdict is its value, or want of memory, where no read failed
   verdict_is : (verdict : Verdict) (before now : ℕ) → IsCaused (Some Serial) (Some input) before now verdict → (Rose before now → ⊥)
-      → ((value : ℤ) × (value_of e ≡ Some value) × (verdict ≡ Value value)) ⊎ (verdict ≡ Memory)
+      → ((run : Run) × IsRunOf e run × (verdict ≡ Value run)) ⊎ (verdict ≡ Memory)
   verdict_is Usage before now caused calm = absurd (some_none caused)
     where
       some_none : Some Serial ≡ None → ⊥
       some_none h = cc
   verdict_is Read before now caused calm = absurd (calm caused.1)
   verdict_is Long before now caused calm = absurd (omega (arith, caused.1, form.short))
-  verdict_is (Refused place Syntax) before now caused calm = absurd (caused.1.2 e form)
-  verdict_is (Value n) before now caused calm =
+  verdict_is (Refused offset Syntax) before now caused calm = absurd (caused.1.2 e form)
+  verdict_is (Value run) before now caused calm =
       let found = caused.1 in
       let same = one_form input found.1 e found.2 form in
-      inl (n, ap value_of (sym same) ∙ found.3, refl)
+      inl (run, subst (λ (of : Expr ℕ). IsRunOf of run) same found.3, refl)
   verdict_is Memory before now caused calm = inr refl
 
   -- and it is said, where no write failed
   pub says_value : (verdict : Verdict) (status : ℕ) (old new : Option (List ℕ)) (before now sink_before sink_now : ℕ)
       → IsCaused (Some Serial) (Some input) before now verdict → Tells verdict status old new sink_before sink_now
       → (Rose before now → ⊥) → (Rose sink_before sink_now → ⊥)
-      → ((value : ℤ) × (value_of e ≡ Some value) × Says (Value value) status old new) ⊎ Says Memory status old new
+      → ((run : Run) × IsRunOf e run × Says (Value run) status old new) ⊎ Says Memory status old new
   says_value verdict status old new before now sink_before sink_now caused (said, which, inr breaks) calm still = absurd (still breaks.rose)
   says_value verdict status old new before now sink_before sink_now caused (said, inr memory, inl says) calm still =
       inr (subst (λ (v : Verdict). Says v status old new) memory says)
@@ -92,7 +87,7 @@ module _ (input : List ℕ) (e : Expr ℕ) (form : IsFirstForm input e) where
 pub says_told_value : (input : Option (List ℕ)) (command : Option Command) (verdict : Verdict) (status : ℕ) (old new : Option (List ℕ)) (before now sink_before sink_now : ℕ)
     → command ≡ Some Serial → IsCaused command input before now verdict → Tells verdict status old new sink_before sink_now
     → IfSome input (λ bytes. (e : Expr ℕ) → IsFirstForm bytes e → (Rose before now → ⊥) → (Rose sink_before sink_now → ⊥)
-    → ((value : ℤ) × (value_of e ≡ Some value) × Says (Value value) status old new) ⊎ Says Memory status old new)
+    → ((run : Run) × IsRunOf e run × Says (Value run) status old new) ⊎ Says Memory status old new)
 says_told_value None command verdict status old new before now sink_before sink_now is caused told = tt
 says_told_value (Some bytes) command verdict status old new before now sink_before sink_now is caused told = λ e form calm still.
     says_value bytes e form verdict status old new before now sink_before sink_now (subst (λ c. IsCaused c (Some bytes) before now verdict) is caused) told calm still

@@ -1,4 +1,5 @@
 pub mod Scan
 pub mod First
 pub mod Stack
+pub mod Run
 pub mod Verdict

@@ -1,16 +1,8 @@
 -- Tokens of source text, and the white space before them.
-use Rattle.std.specs.Prelude.{◌≡◌, ℕ, ◌≤◌, ◌==◌, Bool, true, false, ◌||◌, List, [], ◌∷◌, ◌++◌, length, slice_index, ⊤, ℤ, pos, if◌then◌else◌}
-use Rattle.std.specs.Char.{is_ascii_alphanumeric}
+use Rattle.std.specs.Prelude.{◌≡◌, ℕ, ◌≤◌, Bool, true, false, List, [], ◌∷◌, ◌++◌, length, slice_index, ⊤, ℤ, pos, if◌then◌else◌}
 use Rattle.std.specs.List.{AllByRecursion}
 use Rattle.std.specs.Str.Parse.{IsNumeral, digits_value}
-
--- a space, a tab, a carriage return or a line feed
-abbrev pub is_space : ℕ → Bool
-is_space byte = byte == 32 || byte == 9 || byte == 13 || byte == 10
-
--- a letter, a digit or `_`: a byte that a word or a number goes on with
-abbrev pub is_word_byte : ℕ → Bool
-is_word_byte byte = is_ascii_alphanumeric byte || byte == 95
+use Rattle.cm_syntax.specs.Text.{is_space, is_word_byte}
 
 -- each byte is white space
 abbrev pub IsWhite : List ℕ → Type 0
@@ -27,28 +19,32 @@ StartsBlack [] = ⊥
 StartsBlack (byte ∷ bytes) = is_space byte ≡ false
 
 -- After white space the bytes of the token stand at the front, and rest follows.
-pub record Stands (token bytes rest : List ℕ) : Type 0 where
+pub record TokenAt (token bytes rest : List ℕ) : Type 0 where
   pub spaces : List ℕ
   pub white : IsWhite spaces
   pub text : bytes ≡ spaces ++ (token ++ rest)
 
 -- The same of a word or a number, which no letter, digit or `_` follows at once.
-pub record StandsApart (token bytes rest : List ℕ) : Type 0 where
-  pub stands : Stands token bytes rest
+pub record WordAt (token bytes rest : List ℕ) : Type 0 where
+  pub here : TokenAt token bytes rest
   pub apart : DoesNotBegin is_word_byte rest
+
+-- the largest literal
+abbrev pub max_literal : ℕ
+max_literal = 2147483647
 
 -- The digits of a literal, 0 or digits that don't begin with 0, and its value.
 pub record IsLiteral (digits : List ℕ) (number : ℤ) : Type 0 where
   pub numeral : IsNumeral 10 digits
   pub plain : slice_index digits 0 ≡ 48 → length digits ≡ 1
   pub value : number ≡ pos (digits_value 10 digits)
-  pub fits : digits_value 10 digits ≤ 2147483647
+  pub fits : digits_value 10 digits ≤ max_literal
 
 -- A literal of this value stands next, and rest follows.
-pub record LiteralStands (number : ℤ) (bytes rest : List ℕ) : Type 0 where
+pub record LiteralAt (number : ℤ) (bytes rest : List ℕ) : Type 0 where
   pub digits : List ℕ
   pub literal : IsLiteral digits number
-  pub stands : StandsApart digits bytes rest
+  pub word : WordAt digits bytes rest
 
 -- what follows the bytes at the front that pass the test
 abbrev pub after : (ℕ → Bool) → List ℕ → List ℕ

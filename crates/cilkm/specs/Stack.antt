@@ -1,9 +1,11 @@
 -- The stack as a list of words, and the machine of a hart over it.
 use Rattle.std.specs.Prelude.{ℕ, ◌-◌, ◌*◌, ◌/◌, nat_lt, if◌then◌else◌, List, length, slice_index, replicate}
-use Rattle.cm_isa.specs.Registers.{put}
+use Rattle.cm_isa.specs.Register.{put}
+use Rattle.cm_isa.specs.View.{View}
+use Rattle.cm_isa.specs.Machine.{Machine, machine_of}
+use Rattle.cm_isa.specs.declared.convention.TheConstants as reg
 use Rattle.cm_isa.specs.declared.memory.Shown.{Shown}
 use Rattle.cm_isa.specs.declared.memory.Shown.TheVariants.{Place, Outside}
-use Rattle.cm_gen.specs.Machine.{Machine, machine_at}
 use Rattle.cm_gen.specs.Run.{stack_top, table_start}
 
 -- the lowest address of a stack of so many words
@@ -15,14 +17,14 @@ abbrev pub stack_shown : (count address : ℕ) → Shown
 stack_shown count address =
     if nat_lt address (stack_low count) then Outside else if nat_lt address stack_top then Place ((address - stack_low count) / 4) else Outside
 
--- the machine of these registers and this program counter over a stack
-abbrev pub stack_machine : (stack registers : List ℕ) → (counter : ℕ) → Machine
-stack_machine stack registers counter = machine_at (stack_shown (length stack)) (slice_index stack) registers counter
+-- the stack as an instruction sees it: each of its words may be touched
+abbrev pub stack_view : (stack : List ℕ) → View
+stack_view stack = record { shown = stack_shown (length stack); allowed = λ place. nat_lt place (length stack); word_at = slice_index stack }
 
 -- the registers at the start of a run
 abbrev pub first_registers : (account ticks : ℕ) → List ℕ
-first_registers account ticks = put (put (put (replicate 32 0) 2 stack_top) 3 account) 4 ticks
+first_registers account ticks = put (put (put (replicate 32 0) reg.SP stack_top) reg.ACCOUNT account) reg.TICKS ticks
 
 -- the machine at the start of a run over a stack
 abbrev pub start_machine : (stack : List ℕ) → (account ticks : ℕ) → Machine
-start_machine stack account ticks = stack_machine stack (first_registers account ticks) table_start
+start_machine stack account ticks = machine_of (stack_view stack) (first_registers account ticks) table_start

@@ -4,11 +4,11 @@ use Rattle.std.specs.Str.{bytes_eq}
 use Rattle.std.specs.Borrow.{Bor}
 use Rattle.std.specs.Fmt.{decimal, signed_decimal}
 use Rattle.std.specs.Io.KnownBytes.{Appends}
-use Rattle.cm_text.specs.Counts.{Rose}
+use Rattle.cm_text.specs.Count.{Rose}
 use Rattle.cm_text.specs.Transfer.{TookFront}
 use Rattle.cm_syntax.specs.declared.expr.Expr.{Expr}
-use Rattle.cm_syntax.specs.Expr.{value_of}
 use Rattle.cilkm.specs.First.{IsFirstForm}
+use Rattle.cilkm.specs.Run.{IsRunOf}
 use Rattle.cilkm.specs.declared.command.Command.{Command}
 use Rattle.cilkm.specs.declared.command.Command.TheVariants.{Serial}
 use Rattle.cilkm.specs.declared.verdict.Refusal.{Refusal}
@@ -29,9 +29,9 @@ command_of _ = None
 
 -- ---- texts and statuses
 
--- the most bytes that standard input has
-abbrev pub input_limit : ℕ
-input_limit = 4194304
+-- the most bytes of standard input
+abbrev pub max_input : ℕ
+max_input = 4194304
 
 -- the word of a refusal
 abbrev pub refusal_word : Refusal → List ℕ
@@ -42,8 +42,8 @@ abbrev pub verdict_text : Verdict → List ℕ
 verdict_text Usage = codes "usage\n"
 verdict_text Read = codes "read\n"
 verdict_text Long = codes "long\n"
-verdict_text (Refused place refusal) = codes "refused " ++ (decimal place ++ (codes " " ++ (refusal_word refusal ++ codes "\n")))
-verdict_text (Value value) = codes "value " ++ (signed_decimal value ++ codes "\n")
+verdict_text (Refused offset refusal) = codes "refused " ++ (decimal offset ++ (codes " " ++ (refusal_word refusal ++ codes "\n")))
+verdict_text (Value run) = codes "value " ++ (signed_decimal run.value ++ codes "\n")
 verdict_text Memory = codes "memory\n"
 
 -- the status with which the program ends
@@ -51,22 +51,25 @@ abbrev pub verdict_status : Verdict → ℕ
 verdict_status Usage = 2
 verdict_status Read = 5
 verdict_status Long = 8
-verdict_status (Refused place refusal) = 1
-verdict_status (Value value) = 0
+verdict_status (Refused offset refusal) = 1
+verdict_status (Value run) = 0
 verdict_status Memory = 7
 
--- ---- what is decided by the words and the input
+-- ---- why it is answered
 
--- the command comes to this, with this standard input
+-- the command, or None for words that are no command, comes to this verdict with this standard input
 abbrev pub Means : Option Command → (input : List ℕ) → Verdict → Type 0
 Means None input Usage = Unit {0}
-Means (Some Serial) input Long = input_limit < length input
-Means (Some Serial) input (Refused place Syntax) = (length input ≤ input_limit) × (place ≡ 0) × ((e : Expr ℕ) → IsFirstForm input e → ⊥)
-Means (Some Serial) input (Value value) = (length input ≤ input_limit) × (e : Expr ℕ) × IsFirstForm input e × (value_of e ≡ Some value)
+Means (Some Serial) input Long = max_input < length input
+Means (Some Serial) input (Refused offset Syntax) = (length input ≤ max_input) × (offset ≡ 0) × ((e : Expr ℕ) → IsFirstForm input e → ⊥)
+Means (Some Serial) input (Value run) = (length input ≤ max_input) × (e : Expr ℕ) × IsFirstForm input e × IsRunOf e run
 Means _ input _ = ⊥
 
--- the cause of each verdict: Read comes only where the source's count of faults rose, want of memory is free, and the
--- others are decided by the command and by the standard input, where the source tells it
+-- The cause of each verdict, by standard input, which a source may not tell, and the source's count of faults before and now:
+--   Usage   the words are no command
+--   Read    the words are a command, and the source's count of faults rose
+--   Memory  none is told, since memory may run out at any point
+--   others  the words are a command, and it comes to the verdict with standard input, where the source tells that
 abbrev pub IsCaused : Option Command → (input : Option (List ℕ)) → (before now : ℕ) → Verdict → Type 0
 IsCaused command input before now Usage = command ≡ None
 IsCaused command input before now Read = IsSome command × Rose before now

@@ -7,17 +7,17 @@ ghost use Rattle.cm_syntax.specs.declared.expr.Expr.{Expr};
 ghost use Rattle.cm_syntax.specs.declared.expr.Op.{Op};
 ghost use Rattle.cm_syntax.specs.declared.expr.Op.TheVariants as operators;
 ghost use Rattle.cm_syntax.specs.Expr.{IsClosed};
-ghost use Rattle.cilkm.specs.First.{SignStands, is_additive, IsFactor, IsProduct, IsSum, Opens, Closes, IsFirstForm, is_sign, DoesNotStand};
+ghost use Rattle.cilkm.specs.First.{SignAt, is_additive, IsFactor, IsProduct, IsSum, Opens, Closes, IsFirstForm, is_sign, NoSignAt};
 
 use crate::scan::{is_blank, literal, sign, word};
 use cm_syntax::{Expr, Op};
 use sqlite_items::Boxed;
 use std::alloc::{AllocError, Global};
 
-/// The most bytes that a source has.
-const MAX_BYTES: usize = 65536;
+/// The most bytes of a source.
+const MAX_SOURCE: usize = 65536;
 
-/// The most signs that an expression has.
+/// The most signs of an expression.
 const MAX_SIGNS: usize = 64;
 
 /// How many signs there are among the bytes.
@@ -30,8 +30,8 @@ fn sign_count(bytes: &[u8]) -> usize
         .count()
 }
 
-/// Two operands and the operator between them.
-fn joined(alloc: Global, op: Op, left: Expr<u32>, right: Expr<u32>) -> Result<Expr<u32>, AllocError>
+/// The expression of two operands and the operator between them.
+fn join(alloc: Global, op: Op, left: Expr<u32>, right: Expr<u32>) -> Result<Expr<u32>, AllocError>
     ensures { IfOk result (λ whole. whole ≡ Joined op left right) }
 {
     let left = Boxed::new(alloc, left)?;
@@ -80,8 +80,8 @@ fn factor(bytes: &[u8]) -> Option<(Expr<u32>, &[u8])>
 fn additive(bytes: &[u8]) -> Option<(Op, &[u8])>
     ensures shorter { IfSome result (λ found. length found.1.now < length bytes.now) }
     ensures level { IfSome result (λ found. is_additive found.0 ≡ true) }
-    ensures found { IfSome result (λ found. SignStands found.0 bytes.now found.1.now) }
-    ensures only { (op : Op) (end : List ℕ) → is_additive op ≡ true → SignStands op bytes.now end
+    ensures found { IfSome result (λ found. SignAt found.0 bytes.now found.1.now) }
+    ensures only { (op : Op) (end : List ℕ) → is_additive op ≡ true → SignAt op bytes.now end
         → IsSome result }
 {
     if let Some(rest) = sign(bytes, b"+") {
@@ -96,7 +96,7 @@ fn product<'a>(alloc: Global, bytes: &'a [u8]) -> Result<Option<(Expr<u32>, &'a 
     ensures shorter { IfOk result (λ read. IfSome read (λ found. length found.1.now ≤ length bytes.now)) }
     ensures found { IfOk result (λ read. IfSome read (λ found. IsProduct found.0 bytes.now found.1.now)) }
     ensures only { (whole : Expr ℕ) (end : List ℕ) → IsProduct whole bytes.now end
-        → DoesNotStand operators.Mul end
+        → NoSignAt operators.Mul end
         → IfOk result (λ read. IsSomeAnd read (λ found. (found.0 ≡ whole) × (found.1.now ≡ end))) }
 {
     let Some((mut left, mut rest)) = factor(bytes) else {
@@ -106,7 +106,7 @@ fn product<'a>(alloc: Global, bytes: &'a [u8]) -> Result<Option<(Expr<u32>, &'a 
         let Some((right, next)) = factor(behind) else {
             return Ok(None);
         };
-        left = joined(alloc, Op::Mul, left, right)?;
+        left = join(alloc, Op::Mul, left, right)?;
         rest = next;
     }
     Ok(Some((left, rest)))
@@ -116,7 +116,7 @@ fn product<'a>(alloc: Global, bytes: &'a [u8]) -> Result<Option<(Expr<u32>, &'a 
 fn sum<'a>(alloc: Global, bytes: &'a [u8]) -> Result<Option<(Expr<u32>, &'a [u8])>, AllocError>
     ensures found { IfOk result (λ read. IfSome read (λ found. IsSum found.0 bytes.now found.1.now)) }
     ensures only { (whole : Expr ℕ) (end : List ℕ) → IsSum whole bytes.now end
-        → ((op : Op) → DoesNotStand op end)
+        → ((op : Op) → NoSignAt op end)
         → IfOk result (λ read. IsSomeAnd read (λ found. (found.0 ≡ whole) × (found.1.now ≡ end))) }
 {
     let Some((mut left, mut rest)) = product(alloc, bytes)? else {
@@ -126,7 +126,7 @@ fn sum<'a>(alloc: Global, bytes: &'a [u8]) -> Result<Option<(Expr<u32>, &'a [u8]
         let Some((right, next)) = product(alloc, behind)? else {
             return Ok(None);
         };
-        left = joined(alloc, op, left, right)?;
+        left = join(alloc, op, left, right)?;
         rest = next;
     }
     Ok(Some((left, rest)))
@@ -145,7 +145,7 @@ pub fn read(alloc: Global, source: &[u8]) -> Result<Option<Expr<u32>>, AllocErro
     ensures closed { IfOk result (λ read. IfSome read (λ expression. IsClosed expression)) }
 {
     // In a source of the form each sign is an operator, so the count bounds the tree before there is one.
-    if source.len() > MAX_BYTES || sign_count(source) > MAX_SIGNS {
+    if source.len() > MAX_SOURCE || sign_count(source) > MAX_SIGNS {
         return Ok(None);
     }
     let Some(text) = opening(source) else {

@@ -1,7 +1,7 @@
 //! The stack, and a run of an image on one hart from its start to the end service.
-ghost use Rattle.std.specs.Prelude.{◌≡◌, ℕ, ◌<◌, ◌≤◌, ◌^◌, ℤ, List, length, nat_lt, slice_index, IfOk};
+ghost use Rattle.std.specs.Prelude.{◌≡◌, ℕ, ◌<◌, ◌≤◌, ◌^◌, ℤ, List, length, IfOk};
 ghost use Rattle.cm_gen.specs.Run.{Ends};
-ghost use Rattle.cilkm.specs.Stack.{stack_shown, start_machine, first_registers};
+ghost use Rattle.cilkm.specs.Stack.{start_machine, first_registers};
 
 use cm_asm::Image;
 use cm_hart::{Halt, Hart, step};
@@ -16,7 +16,7 @@ const STACK_TOP: u32 = 0x4000_0000;
 /// The words of the stack: 64 pages of 4,096 bytes.
 const STACK_WORDS: usize = 65536;
 
-/// The place of main's word in the table of functions.
+/// The address of main's word in the table of functions.
 const TABLE_START: u32 = 8;
 
 /// The number of the service that ends a run.
@@ -49,11 +49,14 @@ impl Stack {
 }
 
 impl Words for Stack {
-    ghost shown = { λ stack. stack_shown (length stack) };
+    ghost use Rattle.std.specs.Prelude.{ℕ, length};
+    ghost use Rattle.cilkm.specs.Stack.{stack_view};
 
-    ghost allowed = { λ stack place. nat_lt place (length stack) };
+    ghost view = { λ stack. stack_view stack };
 
-    ghost word_at = { λ stack. slice_index stack };
+    ghost Rest = { ℕ };
+
+    ghost rest = { λ stack. length stack };
 
     fn show(&self, address: u32) -> Shown {
         let low = STACK_TOP - 4 * self.words.len() as u32;
@@ -75,9 +78,45 @@ impl Words for Stack {
     }
 }
 
+/// A run that came to the end service: the image that was run, and the number in register 5 there. Only
+/// `run` makes one. Contracts see its words and its value.
+#[derive(Debug, Drop)]
+pub struct EndedRun {
+    image: Image,
+    value: i32,
+}
+
+impl Model for EndedRun {
+    ghost use Rattle.cilkm.specs.Run.{Run};
+
+    ghost Value = { Run };
+
+    ghost view = { λ run. record { words = run.image.words; value = run.value } };
+}
+
+impl EndedRun {
+    /// The number in register 5 at the end.
+    pub fn value(&self) -> i32
+        ensures { result ≡ self.now.value }
+    {
+        self.value
+    }
+}
+
 /// Runs the image from its start to the end service, with an account of so many bytes and with so many
-/// ticks, and gives the number in register 5 there.
-pub(crate) fn run(image: &Image, stack: &mut Stack, account: u32, ticks: u32) -> i32
+/// ticks.
+pub(crate) fn run(image: Image, stack: &mut Stack, account: u32, ticks: u32) -> EndedRun
+    requires { (value : ℤ) × (steps : ℕ) × (steps < 2 ^ 30) × Ends image.words (start_machine stack.old account ticks) steps value }
+    ensures words { result.words ≡ image.words }
+    ensures value { (value : ℤ) (steps : ℕ) → Ends image.words (start_machine stack.old account ticks) steps value
+        → result.value ≡ value }
+{
+    let value = end_value(&image, stack, account, ticks);
+    EndedRun { image, value }
+}
+
+/// Steps through the image up to the end service, and gives the number in register 5 there.
+fn end_value(image: &Image, stack: &mut Stack, account: u32, ticks: u32) -> i32
     requires { (value : ℤ) × (steps : ℕ) × (steps < 2 ^ 30) × Ends image.now.words (start_machine stack.old account ticks) steps value }
     ensures { (value : ℤ) (steps : ℕ) → Ends image.now.words (start_machine stack.old account ticks) steps value → result ≡ value }
 {

@@ -13,36 +13,29 @@ mod tests;
 mod verdict;
 
 use cm_text::{RealSink, RealSource};
-use std::alloc::AllocError;
-use std::env;
 use std::process::ExitCode;
 use std::rt::Env;
-use still::still;
+use std::{env, io};
+use still::{refuse_words, still};
 
 fn main(rt: HostRuntime) -> ExitCode {
     let mut source = RealSource::new(rt.stdin());
     let mut sink = RealSink::new(rt.stdout());
-    let words = given_words(&rt);
-    let status = match texts(&rt, &words) {
-        Ok(texts) => still(rt.alloc(), texts.as_slice(), &mut source, &mut sink),
-        Err(AllocError) => still(rt.alloc(), &[], &mut source, &mut sink),
+    let status = match answer_words(&rt, &mut source, &mut sink) {
+        Ok(status) => status,
+        Err(error) => refuse_words(rt.alloc(), &error, &mut sink),
     };
     ExitCode::from(status)
 }
 
-/// The words after the program's name; none where they can't be had, since some word is no text.
-fn given_words(rt: &(impl Env + AllocGlobal)) -> Vec<String> {
-    let none = Vec::new(rt.alloc());
-    let Ok(words) = env::args(rt) else {
-        return none;
-    };
-    match words.skip(1).collect(rt.alloc()) {
-        Ok(words) => words,
-        Err(_) => none,
-    }
-}
-
-/// The words as texts.
-fn texts<'a>(rt: &impl AllocGlobal, words: &'a Vec<String>) -> Result<Vec<&'a str>, AllocError> {
-    words.iter().map(|word| word.as_str()).collect(rt.alloc())
+/// Calls `still` with the words after the program's name, and gives its status. An error says why they
+/// can't be had: there is no memory for them, or some word is no text.
+fn answer_words(
+    rt: &(impl Env + AllocGlobal),
+    source: &mut RealSource,
+    sink: &mut RealSink,
+) -> io::Result<u8> {
+    let words: Vec<String> = env::args(rt)?.skip(1).collect(rt.alloc())?;
+    let texts: Vec<&str> = words.iter().map(|word| word.as_str()).collect(rt.alloc())?;
+    Ok(still(rt.alloc(), texts.as_slice(), source, sink))
 }

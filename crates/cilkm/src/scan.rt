@@ -3,7 +3,8 @@
 ghost use Rattle.std.specs.Prelude.{◌≡◌, ◌≤◌, ◌<◌, List, ℕ, ℤ, IfSome, IsSomeAnd, IsTrue, ◌↔◌, ◌+◌, length, min};
 ghost use Rattle.std.specs.Char.{is_ascii_digit};
 ghost use Rattle.std.specs.Str.Parse.{digits_value, AllDigits};
-ghost use Rattle.cilkm.specs.Scan.{is_space, is_word_byte, IsWhite, after, front, DoesNotBegin, StartsBlack, Stands, StandsApart, IsLiteral, LiteralStands};
+ghost use Rattle.cm_syntax.specs.Text.{is_space, is_word_byte};
+ghost use Rattle.cilkm.specs.Scan.{IsWhite, after, front, DoesNotBegin, StartsBlack, TokenAt, WordAt, IsLiteral, LiteralAt};
 
 /// The largest literal.
 const MAX_LITERAL: u64 = 2147483647;
@@ -35,7 +36,7 @@ pub fn skip_space(bytes: &[u8]) -> &[u8]
 }
 
 /// Whether there is nothing but white space.
-#[tactic(auto, using(crate::proofs::Tokens::white_from_after, crate::proofs::Tokens::after_white))]
+#[tactic(auto, using(crate::proofs::TokenLaws::white_from_after, crate::proofs::TokenLaws::after_white))]
 pub fn is_blank(bytes: &[u8]) -> bool
     ensures { IsTrue result ↔ IsWhite bytes.now }
 {
@@ -56,8 +57,8 @@ fn is_apart(bytes: &[u8]) -> bool
 pub fn sign<'a>(bytes: &'a [u8], text: &[u8]) -> Option<&'a [u8]>
     requires { StartsBlack text.now }
     ensures shorter { IfSome result (λ rest. length rest.now < length bytes.now) }
-    ensures found { IfSome result (λ rest. Stands text.now bytes.now rest.now) }
-    ensures only { (rest : List ℕ) → Stands text.now bytes.now rest
+    ensures found { IfSome result (λ rest. TokenAt text.now bytes.now rest.now) }
+    ensures only { (rest : List ℕ) → TokenAt text.now bytes.now rest
         → IsSomeAnd result (λ found. found.now ≡ rest) }
 {
     skip_space(bytes).strip_prefix(text)
@@ -66,8 +67,8 @@ pub fn sign<'a>(bytes: &'a [u8], text: &[u8]) -> Option<&'a [u8]>
 /// What follows a word, where that stands next after white space.
 pub fn word<'a>(bytes: &'a [u8], text: &[u8]) -> Option<&'a [u8]>
     requires { StartsBlack text.now }
-    ensures found { IfSome result (λ rest. StandsApart text.now bytes.now rest.now) }
-    ensures only { (rest : List ℕ) → StandsApart text.now bytes.now rest
+    ensures found { IfSome result (λ rest. WordAt text.now bytes.now rest.now) }
+    ensures only { (rest : List ℕ) → WordAt text.now bytes.now rest
         → IsSomeAnd result (λ found. found.now ≡ rest) }
 {
     let rest = sign(bytes, text)?;
@@ -89,7 +90,7 @@ fn skip_digits(bytes: &[u8]) -> &[u8]
 }
 
 /// The digits at the front, and what follows them.
-#[tactic(auto, using(crate::proofs::Tokens::length_after, crate::proofs::Tokens::take_front, crate::proofs::Tokens::drop_front))]
+#[tactic(auto, using(crate::proofs::TokenLaws::length_after, crate::proofs::TokenLaws::take_front, crate::proofs::TokenLaws::drop_front))]
 fn digits(bytes: &[u8]) -> (&[u8], &[u8])
     ensures front { result.0.now ≡ front is_ascii_digit bytes.now }
     ensures rest { result.1.now ≡ after is_ascii_digit bytes.now }
@@ -130,8 +131,8 @@ fn number(digits: &[u8]) -> Option<i32>
 /// The literal that stands next after white space, and what follows it.
 pub fn literal(bytes: &[u8]) -> Option<(i32, &[u8])>
     ensures shorter { IfSome result (λ found. length found.1.now ≤ length bytes.now) }
-    ensures found { IfSome result (λ found. LiteralStands found.0 bytes.now found.1.now) }
-    ensures only { (number : ℤ) (rest : List ℕ) → LiteralStands number bytes.now rest
+    ensures found { IfSome result (λ found. LiteralAt found.0 bytes.now found.1.now) }
+    ensures only { (number : ℤ) (rest : List ℕ) → LiteralAt number bytes.now rest
         → IsSomeAnd result (λ found. (found.0 ≡ number) × (found.1.now ≡ rest)) }
 {
     let (digits, rest) = digits(skip_space(bytes));

@@ -1,16 +1,14 @@
 //! The top call: from the words and standard input to the status and standard output.
-ghost use Rattle.std.specs.Prelude.{◌≡◌, ℕ, ℤ, ◌<◌, ◌≤◌, ◌⊎◌, [], ◌∷◌, Option, Some, None, IfOk, IfSome, IsSome, Contains, length, codes};
-ghost use Rattle.std.specs.Io.KnownBytes.{Appends};
-ghost use Rattle.std.specs.String.{string_bytes};
-ghost use Rattle.cm_text.specs.Counts.{Rose};
-ghost use Rattle.cm_text.specs.Transfer.{TookFront};
+ghost use Rattle.std.specs.Prelude.{◌≡◌, ◌≢◌, ℕ, ◌≤◌, ◌⊎◌, Some, IfOk, IfSome, length};
+ghost use Rattle.std.specs.IoError.{error_kind};
+ghost use Rattle.cm_text.specs.Count.{Rose};
 ghost use Rattle.cm_syntax.specs.declared.expr.Expr.{Expr};
-ghost use Rattle.cm_syntax.specs.Expr.{value_of};
 ghost use Rattle.cilkm.specs.First.{IsFirstForm};
+ghost use Rattle.cilkm.specs.Run.{Run, IsRunOf};
 ghost use Rattle.cilkm.specs.declared.command.Command.TheVariants as commands;
 ghost use Rattle.cilkm.specs.declared.verdict.Verdict.{Verdict};
 ghost use Rattle.cilkm.specs.declared.verdict.Verdict.TheVariants as verdicts;
-ghost use Rattle.cilkm.specs.Verdict.{texts, command_of, input_limit, verdict_text, verdict_status, Means, IsCaused, Says, BreaksOff, Tells, IsDecided};
+ghost use Rattle.cilkm.specs.Verdict.{texts, command_of, max_input, verdict_text, verdict_status, Means, IsCaused, Says, BreaksOff, Tells, IsDecided};
 
 use crate::command::{self, Command};
 use crate::first;
@@ -20,9 +18,10 @@ use cm_asm::Image;
 use cm_gen::make_first;
 use cm_text::{Memory, ReadEnd, Sink, Source, read_all, write_all};
 use std::alloc::Global;
+use std::io::{self, ErrorKind};
 
 /// The most bytes of standard input.
-const INPUT_LIMIT: u32 = 4_194_304;
+const MAX_INPUT: u32 = 4_194_304;
 
 /// The bytes of the stack account.
 const ACCOUNT: u32 = 262_144;
@@ -36,18 +35,13 @@ const PAGE: u32 = 4096;
 /// Does what the words after the program's name say: reads the source, writes the sink, and gives the
 /// status with which the program ends.
 pub fn still<I: Source, O: Sink>(alloc: Global, words: &[&str], source: &mut I, sink: &mut O) -> u8
-    // Which status comes only where, and what then went out.
-    ensures statuses { Contains (0 ∷ 1 ∷ 2 ∷ 5 ∷ 6 ∷ 7 ∷ 8 ∷ []) result }
-    ensures usage { result ≡ 2 → command_of (texts words.now) ≡ None }
-    ensures read { result ≡ 5 → IsSome (command_of (texts words.now)) × Rose (I.faults source.old) (I.faults source.new) }
-    ensures write { result ≡ 6 → Rose (O.faults sink.old) (O.faults sink.new) }
-    ensures front { result ≡ 6 → (verdict : Verdict) × TookFront (O.taken sink.old) (O.taken sink.new) (verdict_text verdict)
-        × IsCaused (command_of (texts words.now)) (I.left source.old) (I.faults source.old) (I.faults source.new) verdict }
-    ensures memory { result ≡ 7 → Appends (O.taken sink.old) (O.taken sink.new) (codes "memory\n") }
+    // Some verdict has its cause, and either it was said whole, with its status, or its text broke off, with status 6.
+    ensures answered { (verdict : Verdict)
+        × IsCaused (command_of (texts words.now)) (I.left source.old) (I.faults source.old) (I.faults source.new) verdict
+        × (Says verdict result (O.taken sink.old) (O.taken sink.new)
+        ⊎ BreaksOff verdict result (O.taken sink.old) (O.taken sink.new) (O.faults sink.old) (O.faults sink.new)) }
 
-    // Every other status, and its text, is what the words and the input decide.
-    ensures wrong_words { command_of (texts words.now) ≡ None → IsDecided result
-        → Says verdicts.Usage result (O.taken sink.old) (O.taken sink.new) }
+    // Each status but 5, 6 and 7, and its text, is what the words and the input decide.
     ensures exact { IfSome (I.left source.old) (λ input. IsDecided result → (verdict : Verdict)
         × Means (command_of (texts words.now)) input verdict × Says verdict result (O.taken sink.old) (O.taken sink.new)) }
 
@@ -55,7 +49,7 @@ pub fn still<I: Source, O: Sink>(alloc: Global, words: &[&str], source: &mut I, 
     ensures serial { command_of (texts words.now) ≡ Some commands.Serial → IfSome (I.left source.old) (λ input.
         (expression : Expr ℕ) → IsFirstForm input expression
         → (Rose (I.faults source.old) (I.faults source.new) → ⊥) → (Rose (O.faults sink.old) (O.faults sink.new) → ⊥)
-        → ((value : ℤ) × (value_of expression ≡ Some value) × Says (verdicts.Value value) result (O.taken sink.old) (O.taken sink.new))
+        → ((run : Run) × IsRunOf expression run × Says (verdicts.Value run) result (O.taken sink.old) (O.taken sink.new))
         ⊎ Says verdicts.Memory result (O.taken sink.old) (O.taken sink.new)) }
 
     ensures source_kept { I.faults source.old ≤ I.faults source.new }
@@ -65,6 +59,20 @@ pub fn still<I: Source, O: Sink>(alloc: Global, words: &[&str], source: &mut I, 
     tell(alloc, verdict, sink)
 }
 
+/// Answers in place of `still` where the words can't be had, by the error that says why: `memory` for want
+/// of memory, and else `usage`, since some word is no text.
+pub fn refuse_words<O: Sink>(alloc: Global, error: &io::Error, sink: &mut O) -> u8
+    ensures memory { error_kind error.now ≡ ErrorKind.OutOfMemory
+        → Tells verdicts.Memory result (O.taken sink.old) (O.taken sink.new) (O.faults sink.old) (O.faults sink.new) }
+    ensures usage { error_kind error.now ≢ ErrorKind.OutOfMemory
+        → Tells verdicts.Usage result (O.taken sink.old) (O.taken sink.new) (O.faults sink.old) (O.faults sink.new) }
+{
+    match error.kind() {
+        ErrorKind::OutOfMemory => tell(alloc, Verdict::Memory, sink),
+        _ => tell(alloc, Verdict::Usage, sink),
+    }
+}
+
 /// What the words come to.
 fn judge<I: Source>(alloc: Global, words: &[&str], source: &mut I) -> Verdict
     ensures cause { IsCaused (command_of (texts words.now)) (I.left source.old) (I.faults source.old) (I.faults source.new) result }
@@ -72,7 +80,7 @@ fn judge<I: Source>(alloc: Global, words: &[&str], source: &mut I) -> Verdict
 {
     match command::parse(words) {
         None => Verdict::Usage,
-        Some(Command::Serial) => match serial(alloc, source) {
+        Some(Command::Serial) => match serial_verdict(alloc, source) {
             Ok(verdict) => verdict,
             Err(Memory) => Verdict::Memory,
         },
@@ -80,51 +88,50 @@ fn judge<I: Source>(alloc: Global, words: &[&str], source: &mut I) -> Verdict
 }
 
 /// What the source of standard input comes to, compiled and run on one hart.
-fn serial<I: Source>(alloc: Global, source: &mut I) -> Result<Verdict, Memory>
+fn serial_verdict<I: Source>(alloc: Global, source: &mut I) -> Result<Verdict, Memory>
     ensures cause { IfOk result (IsCaused (Some commands.Serial) (I.left source.old) (I.faults source.old) (I.faults source.new)) }
     ensures kept { I.faults source.old ≤ I.faults source.new }
 {
-    let bytes = match read_all(alloc, source, INPUT_LIMIT) {
+    let bytes = match read_all(alloc, source, MAX_INPUT) {
         Ok(bytes) => bytes,
         Err(ReadEnd::Fault) => return Ok(Verdict::Read),
         Err(ReadEnd::Long { .. }) => return Ok(Verdict::Long),
         Err(ReadEnd::Memory) => return Err(Memory),
     };
-    let verdict = compiled(alloc, bytes.items())?;
+    let verdict = source_verdict(alloc, bytes.items())?;
     Ok(verdict)
 }
 
 /// What a source comes to, compiled and run on one hart.
-fn compiled(alloc: Global, source: &[u8]) -> Result<Verdict, Memory>
-    requires { length source.now ≤ input_limit }
+fn source_verdict(alloc: Global, source: &[u8]) -> Result<Verdict, Memory>
+    requires { length source.now ≤ max_input }
     ensures { IfOk result (Means (Some commands.Serial) source.now) }
 {
     let Some(expression) = first::read(alloc, source)? else {
         return Ok(Verdict::Refused(0, Refusal::Syntax));
     };
     let words = make_first(alloc, &expression, PAGE)?;
-    let image = Image { words };
     let mut stack = Stack::new(alloc)?;
-    let value = hart::run(&image, &mut stack, ACCOUNT, TICKS);
-    Ok(Verdict::Value(value))
+    let run = hart::run(Image { words }, &mut stack, ACCOUNT, TICKS);
+    Ok(Verdict::Value(run))
 }
 
-/// Writes the verdict's line, and gives the status.
+/// Writes the verdict's line, or that of want of memory, and gives the status.
 fn tell<O: Sink>(alloc: Global, verdict: Verdict, sink: &mut O) -> u8
     ensures told { Tells verdict result (O.taken sink.old) (O.taken sink.new) (O.faults sink.old) (O.faults sink.new) }
     ensures kept { O.faults sink.old ≤ O.faults sink.new }
 {
     match verdict.text(alloc) {
-        Ok(text) => said(verdict, text.as_bytes(), sink),
-        Err(_) => said(Verdict::Memory, b"memory\n", sink),
+        Ok(text) => say(&verdict, text.as_bytes(), sink),
+        Err(_) => say(&Verdict::Memory, b"memory\n", sink),
     }
 }
 
 /// Writes a verdict's line, and gives the status: 6 where the sink failed.
-fn said<O: Sink>(verdict: Verdict, text: &[u8], sink: &mut O) -> u8
-    requires { text.now ≡ verdict_text verdict }
-    ensures said { Says verdict result (O.taken sink.old) (O.taken sink.new)
-        ⊎ BreaksOff verdict result (O.taken sink.old) (O.taken sink.new) (O.faults sink.old) (O.faults sink.new) }
+fn say<O: Sink>(verdict: &Verdict, text: &[u8], sink: &mut O) -> u8
+    requires { text.now ≡ verdict_text verdict.now }
+    ensures says { Says verdict.now result (O.taken sink.old) (O.taken sink.new)
+        ⊎ BreaksOff verdict.now result (O.taken sink.old) (O.taken sink.new) (O.faults sink.old) (O.faults sink.new) }
     ensures kept { O.faults sink.old ≤ O.faults sink.new }
 {
     match write_all(sink, text) {

@@ -3,6 +3,7 @@ ghost use Rattle.std.specs.Prelude.{◌≡◌, IfOk};
 ghost use Rattle.std.specs.String.{string_bytes};
 ghost use Rattle.cilkm.specs.Verdict.{verdict_status, verdict_text};
 
+use crate::hart::EndedRun;
 use std::alloc::{AllocError, Global};
 
 /// Why a source is refused.
@@ -12,8 +13,8 @@ pub enum Refusal {
     Syntax,
 }
 
-/// What a run of the program comes to.
-#[derive(Clone, Copy, Debug, PartialEq, Eq)]
+/// What the words and standard input come to.
+#[derive(Debug, Drop)]
 pub enum Verdict {
     /// The words after the program's name are no command.
     Usage,
@@ -21,10 +22,10 @@ pub enum Verdict {
     Read,
     /// Standard input has more than 4,194,304 bytes.
     Long,
-    /// The source is refused at a place, a number of bytes, for a reason.
+    /// The source is refused at an offset, in bytes from its start, for a reason.
     Refused(u32, Refusal),
-    /// The program ended with this value.
-    Value(i32),
+    /// The source was compiled, and the run of its code ended with a value.
+    Value(EndedRun),
     /// There was no memory left.
     Memory,
 }
@@ -35,8 +36,8 @@ impl Verdict {
     ghost use Rattle.cilkm.specs.Verdict.{verdict_status, verdict_text};
 
     /// The status with which the program ends.
-    pub fn status(self) -> u8
-        ensures { result ≡ verdict_status self }
+    pub fn status(&self) -> u8
+        ensures { result ≡ verdict_status self.now }
     {
         match self {
             Verdict::Usage => 2,
@@ -49,17 +50,17 @@ impl Verdict {
     }
 
     /// The line that the program prints.
-    pub fn text(self, alloc: Global) -> Result<String, AllocError>
-        ensures { IfOk result (λ text. string_bytes text ≡ verdict_text self) }
+    pub fn text(&self, alloc: Global) -> Result<String, AllocError>
+        ensures { IfOk result (λ text. string_bytes text ≡ verdict_text self.now) }
     {
         match self {
             Verdict::Usage => String::from_str(alloc, "usage\n"),
             Verdict::Read => String::from_str(alloc, "read\n"),
             Verdict::Long => String::from_str(alloc, "long\n"),
-            Verdict::Refused(place, Refusal::Syntax) => format!(in alloc;
-                "refused {place} syntax\n"
+            Verdict::Refused(offset, Refusal::Syntax) => format!(in alloc;
+                "refused {offset} syntax\n"
             ),
-            Verdict::Value(value) => format!(in alloc; "value {value}\n"),
+            Verdict::Value(run) => format!(in alloc; "value {}\n", run.value()),
             Verdict::Memory => String::from_str(alloc, "memory\n"),
         }
     }

@@ -11,11 +11,11 @@ use Rattle.std.proofs.lemmas.List.Folds.{position_or_len_push}
 use Rattle.std.proofs.lemmas.List.Quantifiers.{position-Some}
 use Rattle.std.proofs.lemmas.Option.{slice_get_within, slice_get-get_or, slice_get_past, get_or_from_slice_get}
 use Rattle.cm_isa.specs.Bits.{IsSigned}
-use Rattle.cm_isa.specs.Formats.{Row}
+use Rattle.cm_isa.specs.Format.{Row}
 use Rattle.cm_isa.specs.Operation.{Operation, operation}
-use Rattle.cm_isa.specs.Places.{AreWordsOf}
-use Rattle.cm_isa.specs.declared.kinds.Kind.{Kind}
-use Rattle.cm_isa.specs.declared.kinds.Kind.TheVariants as kinds
+use Rattle.cm_isa.specs.Address.{AreWordsOf}
+use Rattle.cm_isa.specs.declared.kind.Kind.{Kind}
+use Rattle.cm_isa.specs.declared.kind.Kind.TheVariants as kinds
 use Rattle.cm_asm.specs.declared.items.Item.{Item}
 use Rattle.cm_asm.specs.declared.items.Item.TheVariants.{Plain, Label, Jump, Branch}
 use Rattle.cm_asm.specs.declared.assembler.Spot.{Spot}

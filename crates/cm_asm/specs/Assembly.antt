@@ -2,9 +2,9 @@
 use Rattle.std.specs.Prelude.{◌≡◌, ℕ, ◌+◌, ◌<◌, ◌≤◌, Bool, false, ◌==◌, List, [], ◌∷◌, ◌++◌, length, take, All, ℤ, pos, ◌-ℤ◌, Option, Some, None, option_to_list, unwrap_or, IsSome, MatchOption, slice_get, sum_by, position, Result, Ok, Err}
 use Rattle.cm_isa.specs.Bits.{IsSigned}
 use Rattle.cm_isa.specs.Operation.{Operation, operation}
-use Rattle.cm_isa.specs.Places.{AreWordsOf}
-use Rattle.cm_isa.specs.declared.kinds.Kind.{Kind}
-use Rattle.cm_isa.specs.declared.kinds.Kind.TheVariants as kinds
+use Rattle.cm_isa.specs.Address.{AreWordsOf}
+use Rattle.cm_isa.specs.declared.kind.Kind.{Kind}
+use Rattle.cm_isa.specs.declared.kind.Kind.TheVariants as kinds
 use Rattle.cm_asm.specs.declared.image.Image.{Image}
 use Rattle.cm_asm.specs.declared.items.Item.{Item}
 use Rattle.cm_asm.specs.declared.items.Item.TheVariants.{Plain, Label, Jump, Branch}

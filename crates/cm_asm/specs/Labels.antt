@@ -2,7 +2,7 @@
 use Rattle.std.specs.Prelude.{◌≡◌, ◌==◌, ℕ, List, ℤ, Option, Some, None, option_map, MatchOption, slice_get, Result, Ok, Err}
 use Rattle.indexmap.specs.IndexMap.{IndexMap, get}
 use Rattle.cm_isa.specs.Bits.{IsSigned}
-use Rattle.cm_isa.specs.Formats.{Row}
+use Rattle.cm_isa.specs.Format.{Row}
 use Rattle.cm_isa.specs.Operation.{Operation}
 use Rattle.cm_asm.specs.declared.items.Item.{Item}
 use Rattle.cm_asm.specs.declared.assembler.Spot.{Spot}

@@ -6,7 +6,7 @@ ghost use Rattle.cm_isa.specs.Operation.{operation};
 ghost use Rattle.cm_asm.specs.Assembly.{AnswersWith, AreItems, IsAssembled, IsBranch, IsFirstRefusal, RefusesFirst, is_label, place_of, size_of};
 ghost use Rattle.cm_asm.specs.Listing.{AreWords};
 ghost use Rattle.cm_asm.specs.Labels.{AreLabels, GivesAt, Reaches};
-ghost use Rattle.cm_isa.specs.declared.kinds.Kind.TheVariants as kinds;
+ghost use Rattle.cm_isa.specs.declared.kind.Kind.TheVariants as kinds;
 
 use crate::image::Image;
 use crate::items::Item;

@@ -1,8 +1,5 @@
 -- What the goals of the emitting functions need: one append after another, and signed arguments.
-use Rattle.std.proofs.Common.{◌≡◌, ℕ, List, [], ◌∷◌, ◌++◌, ◌∙◌, append_assoc}
-use Rattle.cm_isa.specs.Formats.{Row}
-use Rattle.cm_isa.specs.Operation.{Operation}
-use Rattle.cm_isa.specs.Places.{AreWordsOf}
+use Rattle.std.proofs.Common.{◌≡◌, List, [], ◌∷◌, ◌++◌, ◌∙◌, append_assoc}
 use Rattle.std.proofs.lemmas.Int.{to_z-of_z}
 
 pub ruleset emitted = (append_assoc, to_z-of_z)
@@ -14,10 +11,3 @@ pub appended_five : {A : Type 0} (c0 c1 c2 c3 c4 c5 p q r s p' q' r' s' : List A
 appended_five c0 c1 c2 c3 c4 c5 p q r s p' q' r' s' t t' e1 f1 e2 f2 e3 f3 e4 f4 e5 f5 =
     let all : c5 ≡ ((((c0 ++ p') ++ q') ++ r') ++ s') ++ t' ∷ [] = cc in
     all ∙ simp append_assoc
-
--- the words of instructions, and one word more
-pub AreWordsOf-push : (words : List ℕ) (is : List Operation) (w : ℕ) (i : Operation) → AreWordsOf words is → Row w i → AreWordsOf (words ++ w ∷ []) (is ++ i ∷ [])
-AreWordsOf-push [] [] w i h row = (row, tt)
-AreWordsOf-push [] (j ∷ is) w i h row = absurd h
-AreWordsOf-push (v ∷ words) [] w i h row = absurd h
-AreWordsOf-push (v ∷ words) (j ∷ is) w i h row = (h.0, AreWordsOf-push words is w i h.1 row)

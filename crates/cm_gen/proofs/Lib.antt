@@ -1,10 +1,10 @@
-pub mod WordLemmas
-pub mod Steps
-pub mod PatternLaws
-pub mod Expressions
-pub mod Functions
+-- The lemmas that the proofs share.
+pub mod WordLaw
+pub mod Step
+pub mod PatternLaw
+pub mod Expression
+pub mod Function
 pub mod Program
 pub mod Image
 pub mod Emitted
-pub mod Trees
-pub mod Bridge
+pub mod Tree

@@ -1,24 +1,24 @@
--- The code of a program of one function `int main() { return E; }`, by its patterns.
---
--- Registers: 1 return address, 2 stack pointer, 3 account left, 4 ticks left, 5 value, 6 and 7 help,
--- 8 frame pointer, 10 result, 31 service number. The frame pointer is the address just above the frame.
-use Rattle.std.specs.Prelude.{ℕ, ◌+◌, ◌*◌, ℤ, pos, negsuc, neg_ℤ, ◌+ℤ◌, ◌-ℤ◌, int_le, Bool, ◌&&◌, if◌then◌else◌, List, [], ◌∷◌, ◌++◌}
+-- The code of a program of one function `int main() { return E; }`, by its patterns. The registers have the names of
+-- `cm_isa/src/convention.rt`.
+use Rattle.std.specs.Prelude.{ℕ, ◌+◌, ◌*◌, ℤ, pos, ◌+ℤ◌, ◌-ℤ◌, int_le, Bool, ◌&&◌, if◌then◌else◌, List, [], ◌∷◌, ◌++◌}
 use Rattle.std.specs.Int.{int_rem_euclid}
+use Rattle.cm_isa.specs.Bits.{minus}
 use Rattle.cm_isa.specs.Operation.{Operation, ecall}
+use Rattle.cm_isa.specs.declared.convention.TheConstants as reg
 use Rattle.cm_syntax.specs.declared.expr.Op.{Op}
 use Rattle.cm_syntax.specs.declared.expr.Op.TheVariants.{Mul, Add, Sub}
 use Rattle.cm_syntax.specs.declared.expr.Expr.{Expr}
 use Rattle.cm_syntax.specs.declared.expr.Expr.TheVariants.{Number}
 use Rattle.cm_syntax.specs.Shape.{Joined}
 use Rattle.cm_syntax.specs.Frame.{temporaries, rounded_frame}
-use Rattle.cm_syntax.specs.Word.{wrapped}
-use Rattle.cm_gen.specs.Operations.{lui, addi, add, sub, mul, lw, sw, jal, jalr, bne, bgeu}
+use Rattle.cm_syntax.specs.Word.{wrap}
+use Rattle.cm_gen.specs.Assembler.{lui, addi, add, sub, mul, lw, sw, jal, jalr, bne, bgeu}
 
 -- ---- numbers in instructions
 
 -- a number that fits an immediate of 12 bits
 abbrev pub is_near : ℤ → Bool
-is_near v = int_le (negsuc 2047) v && int_le v (pos 2047)
+is_near v = int_le (minus 2048) v && int_le v (pos 2047)
 
 -- the low 12 bits of a number, as a signed number
 abbrev pub low_part : ℤ → ℤ
@@ -26,61 +26,61 @@ low_part v = int_rem_euclid (v +ℤ pos 2048) (pos 4096) -ℤ pos 2048
 
 -- what is left of the number above them, as a word whose low 12 bits are 0
 abbrev pub high_part : ℤ → ℤ
-high_part v = wrapped (v -ℤ low_part v)
+high_part v = wrap (v -ℤ low_part v)
 
 -- ---- patterns
 
 -- the register takes a number
 abbrev pub load_number : (r : ℕ) → (n : ℤ) → List Operation
-load_number r n = if is_near n then addi r 0 n ∷ [] else lui r (high_part n) ∷ addi r r (low_part n) ∷ []
+load_number r n = if is_near n then addi r reg.ZERO n ∷ [] else lui r (high_part n) ∷ addi r r (low_part n) ∷ []
 
 -- the register takes the word at an offset from the frame pointer
 abbrev pub load_slot : (r : ℕ) → (offset : ℤ) → List Operation
-load_slot r o = if is_near o then lw r 8 o ∷ [] else lui r (high_part o) ∷ add r r 8 ∷ lw r r (low_part o) ∷ []
+load_slot r o = if is_near o then lw r reg.FP o ∷ [] else lui r (high_part o) ∷ add r r reg.FP ∷ lw r r (low_part o) ∷ []
 
 -- the word at an offset from the frame pointer becomes the register's
 abbrev pub store_slot : (r : ℕ) → (offset : ℤ) → List Operation
-store_slot r o = if is_near o then sw r 8 o ∷ [] else lui 7 (high_part o) ∷ add 7 7 8 ∷ sw r 7 (low_part o) ∷ []
+store_slot r o = if is_near o then sw r reg.FP o ∷ [] else lui reg.HELP (high_part o) ∷ add reg.HELP reg.HELP reg.FP ∷ sw r reg.HELP (low_part o) ∷ []
 
 -- a service of the environment
 abbrev pub service : (number : ℤ) → List Operation
-service n = addi 31 0 n ∷ ecall ∷ []
+service n = addi reg.SERVICE reg.ZERO n ∷ ecall ∷ []
 
 -- one tick is taken; where none is left, service 6 ends the run as spent
 abbrev pub tick : List Operation
-tick = bne 4 0 (pos 12) ∷ (service (pos 6) ++ addi 4 4 (negsuc 0) ∷ [])
+tick = bne reg.TICKS reg.ZERO (pos 12) ∷ (service (pos 6) ++ addi reg.TICKS reg.TICKS (minus 1) ∷ [])
 
 -- ---- expressions
 
 -- the offset of temporary j in a frame whose slots have so many words
 abbrev pub temporary : (slots j : ℕ) → ℤ
-temporary slots j = neg_ℤ (pos (4 * (3 + slots + j)))
+temporary slots j = minus (4 * (3 + slots + j))
 
--- The operator, with its left operand in register 6 and its right one in register 5. Only `+`, `-` and `*` have
+-- The operator, with its left operand in LEFT and its right one in VALUE. Only `+`, `-` and `*` have
 -- code here: the last case, which does nothing, says nothing of the other operators, and no closed expression has them.
 abbrev pub operate : Op → Operation
-operate Mul = mul 5 6 5
-operate Add = add 5 6 5
-operate Sub = sub 5 6 5
-operate _ = addi 0 0 (pos 0)
+operate Mul = mul reg.VALUE reg.LEFT reg.VALUE
+operate Add = add reg.VALUE reg.LEFT reg.VALUE
+operate Sub = sub reg.VALUE reg.LEFT reg.VALUE
+operate _ = addi reg.ZERO reg.ZERO (pos 0)
 
--- Register 5 takes the expression's value; d temporaries are in use before. Only literals and what operators join
+-- VALUE takes the expression's value; d temporaries are in use before. Only literals and what operators join
 -- have code here: the last case, no instruction, says nothing of the other expressions, and no closed one has them.
 abbrev pub evaluate : (slots : ℕ) → Expr ℕ → (d : ℕ) → List Operation
-evaluate slots (Number n) d = load_number 5 n
+evaluate slots (Number n) d = load_number reg.VALUE n
 evaluate slots (Joined op left right) d =
-    evaluate slots left d ++ (store_slot 5 (temporary slots d) ++ (evaluate slots right (d + 1) ++ (load_slot 6 (temporary slots d) ++ operate op ∷ [])))
+    evaluate slots left d ++ (store_slot reg.VALUE (temporary slots d) ++ (evaluate slots right (d + 1) ++ (load_slot reg.LEFT (temporary slots d) ++ operate op ∷ [])))
 evaluate slots _ d = []
 
 -- ---- functions
 
 -- so many bytes are taken of the account; where they aren't left, service 9 ends the run with the trap `stack`
 abbrev pub take_account : (q : ℕ) → List Operation
-take_account q = load_number 7 (pos q) ++ (bgeu 3 7 (pos 12) ∷ (service (pos 9) ++ sub 3 3 7 ∷ []))
+take_account q = load_number reg.HELP (pos q) ++ (bgeu reg.ACCOUNT reg.HELP (pos 12) ∷ (service (pos 9) ++ sub reg.ACCOUNT reg.ACCOUNT reg.HELP ∷ []))
 
 -- a frame of so many bytes below the stack pointer, with the return address and the caller's frame pointer saved
 abbrev pub make_frame : (b : ℕ) → List Operation
-make_frame b = load_number 7 (pos b) ++ (sub 2 2 7 ∷ sw 0 2 (pos 0) ∷ add 7 2 7 ∷ sw 1 7 (negsuc 3) ∷ sw 8 7 (negsuc 7) ∷ addi 8 7 (pos 0) ∷ [])
+make_frame b = load_number reg.HELP (pos b) ++ (sub reg.SP reg.SP reg.HELP ∷ sw reg.ZERO reg.SP (pos 0) ∷ add reg.HELP reg.SP reg.HELP ∷ sw reg.RA reg.HELP (minus 4) ∷ sw reg.FP reg.HELP (minus 8) ∷ addi reg.FP reg.HELP (pos 0) ∷ [])
 
 -- the code before a function's body: the tick, the account, the frame; b is the frame's bytes and q what a call takes of the account
 abbrev pub entry : (b q : ℕ) → List Operation
@@ -88,7 +88,7 @@ entry b q = tick ++ (take_account q ++ make_frame b)
 
 -- the code after a function's body
 abbrev pub leave : (q : ℕ) → List Operation
-leave q = load_number 7 (pos q) ++ (add 3 3 7 ∷ addi 10 5 (pos 0) ∷ lw 1 8 (negsuc 3) ∷ addi 2 8 (pos 0) ∷ lw 8 8 (negsuc 7) ∷ jalr 0 1 (pos 0) ∷ [])
+leave q = load_number reg.HELP (pos q) ++ (add reg.ACCOUNT reg.ACCOUNT reg.HELP ∷ addi reg.RESULT reg.VALUE (pos 0) ∷ lw reg.RA reg.FP (minus 4) ∷ addi reg.SP reg.FP (pos 0) ∷ lw reg.FP reg.FP (minus 8) ∷ jalr reg.ZERO reg.RA (pos 0) ∷ [])
 
 -- the bytes of main's frame
 abbrev pub frame_bytes : Expr ℕ → ℕ
@@ -96,8 +96,8 @@ frame_bytes e = 4 * rounded_frame 0 (temporaries e 0)
 
 -- `return E;` at the end of a body jumps past the 0 that a function that falls off its end returns
 abbrev pub main_code : Expr ℕ → List Operation
-main_code e = let b = frame_bytes e in entry b b ++ (evaluate 0 e 0 ++ (jal 0 (pos 8) ∷ addi 5 0 (pos 0) ∷ leave b))
+main_code e = let b = frame_bytes e in entry b b ++ (evaluate 0 e 0 ++ (jal reg.ZERO (pos 8) ∷ addi reg.VALUE reg.ZERO (pos 0) ∷ leave b))
 
 -- the image: the end service at address 0, the table of functions at address 8, and main
 abbrev pub first_code : Expr ℕ → List Operation
-first_code e = service (pos 0) ++ (jal 0 (pos 4) ∷ main_code e)
+first_code e = service (pos 0) ++ (jal reg.ZERO (pos 4) ∷ main_code e)

@@ -1,4 +1,4 @@
-pub mod Machine
-pub mod Operations
+-- The definitions that the contracts cite.
+pub mod Assembler
 pub mod Code
 pub mod Run

@@ -5,11 +5,12 @@ ghost use Rattle.std.specs.Prelude.{true, ◌≡◌, ◌+◌, ◌*◌, ◌<◌, 
 ghost use Rattle.cm_syntax.specs.Expr as expression;
 ghost use Rattle.cm_syntax.specs.Frame as frame;
 ghost use Rattle.cm_gen.specs.Code as pattern;
-ghost use Rattle.cm_isa.specs.Places.{AreWordsOf};
+ghost use Rattle.cm_isa.specs.Address.{AreWordsOf};
 ghost use Rattle.cm_gen.specs.Run.{RunsTo};
 
-use crate::instructions::{add, addi, jal, mul, sub};
-use crate::patterns::{entry, leave, load_number, load_slot, service, store_slot};
+use crate::instruction::{add, addi, jal, mul, sub};
+use crate::pattern::{entry, leave, load_number, load_slot, service, store_slot};
+use cm_isa::convention::{LEFT, VALUE, ZERO};
 use cm_isa::{Instr, encode};
 use cm_syntax::{Expr, Op};
 use cm_text::{List, Memory};
@@ -19,7 +20,7 @@ use std::alloc::Global;
 /// operators `+`, `-` and `*`, one word for each instruction, from address 0 on.
 ///
 /// A run that starts at the table of functions, at address 8, with a tick and room for main's frame comes
-/// to the end service with the expression's value in register 5. `page` is the page size in bytes; it
+/// to the end service with the expression's value in x5. `page` is the page size in bytes; it
 /// would show only in the code of a Cilk function, which main isn't. `Memory` is want of memory.
 pub fn make_first(alloc: Global, value: &Expr<u32>, _page: u32) -> Result<List<u32>, Memory>
     requires closed { expression.IsClosed value.now }
@@ -41,7 +42,7 @@ fn image(code: &mut List<Instr>, value: &Expr<u32>) -> Result<(), Memory>
     ensures { OnOk result (code.new ≡ code.old ++ pattern.first_code value.now) }
 {
     service(code, 0)?;
-    code.push(jal(0, 4))?;
+    code.push(jal(ZERO, 4))?;
     main_code(code, value)?;
     Ok(())
 }
@@ -55,25 +56,25 @@ fn main_code(code: &mut List<Instr>, value: &Expr<u32>) -> Result<(), Memory>
     let bytes = frame_bytes(value);
     entry(code, bytes, bytes)?;
     evaluate(code, value, 0)?;
-    code.push(jal(0, 8))?;
-    code.push(addi(5, 0, 0))?;
+    code.push(jal(ZERO, 8))?;
+    code.push(addi(VALUE, ZERO, 0))?;
     leave(code, bytes)?;
     Ok(())
 }
 
-/// Register 5 takes the expression's value; `depth` temporaries are in use before.
+/// x5 takes the expression's value; `depth` temporaries are in use before.
 fn evaluate(code: &mut List<Instr>, value: &Expr<u32>, depth: u32) -> Result<(), Memory>
     requires closed { expression.IsClosed value.now }
     requires short { depth + expression.operator_count value.now ≤ 2 ^ 16 }
     ensures { OnOk result (code.new ≡ code.old ++ pattern.evaluate 0 value.now depth) }
 {
     match value {
-        Expr::Number(number) => load_number(code, 5, *number),
+        Expr::Number(number) => load_number(code, VALUE, *number),
         Expr::Binary(op, left, right) => {
             evaluate(code, left.get(), depth)?;
-            store_slot(code, 5, temporary(depth))?;
+            store_slot(code, VALUE, temporary(depth))?;
             evaluate(code, right.get(), depth + 1)?;
-            load_slot(code, 6, temporary(depth))?;
+            load_slot(code, LEFT, temporary(depth))?;
             code.push(operate(*op))?;
             Ok(())
         }
@@ -81,15 +82,15 @@ fn evaluate(code: &mut List<Instr>, value: &Expr<u32>, depth: u32) -> Result<(),
     }
 }
 
-/// The operator `+`, `-` or `*`, with its left operand in register 6 and its right one in register 5.
+/// The operator `+`, `-` or `*`, with its left operand in x6 and its right one in x5.
 fn operate(op: Op) -> Instr
-    requires { expression.is_plain op ≡ true }
+    requires { expression.is_supported op ≡ true }
     ensures { result ≡ pattern.operate op }
 {
     match op {
-        Op::Mul => mul(5, 6, 5),
-        Op::Add => add(5, 6, 5),
-        Op::Sub => sub(5, 6, 5),
+        Op::Mul => mul(VALUE, LEFT, VALUE),
+        Op::Add => add(VALUE, LEFT, VALUE),
+        Op::Sub => sub(VALUE, LEFT, VALUE),
         _ => unreachable!(),
     }
 }

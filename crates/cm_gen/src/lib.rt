@@ -5,7 +5,7 @@
 #![tactic(auto)]
 
 mod first;
-mod instructions;
-mod patterns;
+mod instruction;
+mod pattern;
 
 pub use first::make_first;

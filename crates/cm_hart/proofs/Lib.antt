@@ -1,2 +1,2 @@
 -- The lemmas that the proofs share.
-pub mod Outcomes
+pub mod Outcome

@@ -13,16 +13,20 @@ struct Memory {
 }
 
 impl Words for Memory {
-    ghost use Rattle.std.specs.Prelude.{◌-◌, ◌/◌, nat_lt, if◌then◌else◌, slice_index};
+    ghost use Rattle.std.specs.Prelude.{ℕ, ◌-◌, ◌/◌, nat_lt, if◌then◌else◌, length, slice_index};
     ghost use Rattle.cm_isa.specs.declared.memory.Shown.TheVariants.{Place, Page, Outside};
 
-    ghost shown = { λ m a. if nat_lt a 256 then Outside
-        else (if nat_lt a 272 then Place ((a - 256) / 4)
-        else (if nat_lt a 288 then Page else Outside)) };
+    ghost view = { λ m. record {
+      shown = λ a. if nat_lt a 256 then Outside
+          else (if nat_lt a 272 then Place ((a - 256) / 4)
+          else (if nat_lt a 288 then Page else Outside));
+      allowed = λ p. nat_lt p 4;
+      word_at = slice_index m.words;
+    } };
 
-    ghost allowed = { λ m p. nat_lt p 4 };
+    ghost Rest = { ℕ };
 
-    ghost word_at = { λ m p. slice_index m.words p };
+    ghost rest = { λ m. length m.words };
 
     fn show(&self, address: u32) -> Shown {
         if address < 256 {
@@ -80,7 +84,7 @@ fn steps(rt: HostRuntime) -> Result<(), Fail> {
         assert_eq!(rt; step(&mut hart, &image, &mut memory), Halt::Going);
         assert_eq!(rt; hart.pc, next);
     }
-    // what each place gives then; no step changes anything
+    // what each address gives then; no step changes anything
     for (pc, halt) in [
         (24, Halt::Service(6)),
         (20, fault(FaultKind::Break, 20)),

@@ -1,2 +1,5 @@
 -- The lemmas of the proofs.
-pub mod WordLaws
+pub mod Word
+pub mod Machine
+pub mod Run
+pub mod Image

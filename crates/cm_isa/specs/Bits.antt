@@ -13,3 +13,7 @@ signed k n = if nat_lt n (2 ^ (k - 1)) then pos n else negsuc (2 ^ k - 1 - n)
 pub record IsSigned (k : ℕ) (z : ℤ) : Type 0 where
   pub least : neg_ℤ (pos (2 ^ (k - 1))) ≤ℤ z
   pub most : z <ℤ pos (2 ^ (k - 1))
+
+-- the number that is so far below zero
+abbrev pub minus : ℕ → ℤ
+minus n = neg_ℤ (pos n)

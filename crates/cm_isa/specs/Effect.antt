@@ -1,74 +1,17 @@
--- The effect of one instruction, in two stages: what it asks for, and what is left after it (RISC-V Unprivileged ISA, RV32I and M).
-use Rattle.std.specs.Prelude.{◌≡◌, ℕ, ◌+◌, ◌*◌, ◌-◌, ◌/◌, ◌%◌, ◌^◌, ℤ, Bool, true, false, not, ◌==◌, nat_lt, int_lt, if◌then◌else◌, List, slice_index, slice_set, Option, Some, None, IsTrue}
+-- The effect of one instruction, in three stages: what it asks for (`Action.antt`), what it changes, and what is left after
+-- it (RISC-V Unprivileged ISA, RV32I and M). What it changes is said once, of any registers and any memory.
+use Rattle.std.specs.Prelude.{◌≡◌, ℕ, ◌+◌, ◌*◌, ◌/◌, ◌%◌, ◌^◌, Bool, ◌==◌, if◌then◌else◌, List, slice_index, slice_set, Option, Some, None, IsTrue}
 use Rattle.std.specs.Int.{w32, cast_unsigned, to_le_bytes, from_le_bytes}
-use Rattle.cm_isa.specs.Alu.{int, offset, computed}
 use Rattle.cm_isa.specs.Bits.{signed}
-pub use Rattle.cm_isa.specs.Registers.{put}
+use Rattle.cm_isa.specs.Register.{put_result}
+use Rattle.cm_isa.specs.View.{View, with_place}
 use Rattle.cm_isa.specs.Operation.{Operation}
-use Rattle.cm_isa.specs.declared.kinds.Kind.{Kind}
-use Rattle.cm_isa.specs.declared.kinds.Kind.TheVariants as kinds
+use Rattle.cm_isa.specs.Action.{Size, Byte, Half, Whole, Action, Sets, Passes, Goes, Links, Loads, Stores, Serves, Breaks, follow, action_at}
 use Rattle.cm_isa.specs.declared.memory.Shown.{Shown}
-use Rattle.cm_isa.specs.declared.memory.Shown.TheVariants.{Place, Page, Outside}
+use Rattle.cm_isa.specs.declared.memory.Shown.TheVariants as shown
 use Rattle.cm_isa.specs.declared.execution.FaultKind.TheVariants as faults
 use Rattle.cm_isa.specs.declared.execution.Next.{Next}
 use Rattle.cm_isa.specs.declared.execution.Next.TheVariants.{At, Service, PageFault, Fault}
-pub use Rattle.cm_isa.specs.declared.execution.Size.{Size}
-pub use Rattle.cm_isa.specs.declared.execution.Size.TheVariants.{Byte, Half, Whole}
-pub use Rattle.cm_isa.specs.declared.execution.Action.{Action}
-pub use Rattle.cm_isa.specs.declared.execution.Action.TheVariants.{Sets, Passes, Goes, Links, Loads, Stores, Serves, Breaks}
-
--- ---- what one instruction asks for
-
--- the word of the next instruction's place
-abbrev pub follow : ℕ → ℕ
-follow pc = (pc + 4) % 2 ^ 32
-
--- a branch: to the target where the test holds
-abbrev pub branch : Bool → (target : ℕ) → Action
-branch test target = if test then Goes target else Passes
-
--- the word without bit 0
-abbrev pub without_bit_0 : ℕ → ℕ
-without_bit_0 target = target - target % 2
-
--- the action of an instruction at pc, where its source registers have these words
-abbrev pub asked : Kind → (imm : ℤ) → (pc first second : ℕ) → Action
-asked kinds.Lui imm pc a b = Sets (cast_unsigned w32 imm)
-asked kinds.Auipc imm pc a b = Sets (offset pc imm)
-asked kinds.Jal imm pc a b = Links (offset pc imm)
-asked kinds.Jalr imm pc a b = Links (without_bit_0 (offset a imm))
-asked kinds.Beq imm pc a b = branch (a == b) (offset pc imm)
-asked kinds.Bne imm pc a b = branch (not (a == b)) (offset pc imm)
-asked kinds.Blt imm pc a b = branch (int_lt (int a) (int b)) (offset pc imm)
-asked kinds.Bge imm pc a b = branch (not (int_lt (int a) (int b))) (offset pc imm)
-asked kinds.Bltu imm pc a b = branch (nat_lt a b) (offset pc imm)
-asked kinds.Bgeu imm pc a b = branch (not (nat_lt a b)) (offset pc imm)
-asked kinds.Lb imm pc a b = Loads Byte true (offset a imm)
-asked kinds.Lh imm pc a b = Loads Half true (offset a imm)
-asked kinds.Lw imm pc a b = Loads Whole true (offset a imm)
-asked kinds.Lbu imm pc a b = Loads Byte false (offset a imm)
-asked kinds.Lhu imm pc a b = Loads Half false (offset a imm)
-asked kinds.Sb imm pc a b = Stores Byte (offset a imm) b
-asked kinds.Sh imm pc a b = Stores Half (offset a imm) b
-asked kinds.Sw imm pc a b = Stores Whole (offset a imm) b
-asked kinds.Addi imm pc a b = Sets (computed kinds.Addi a (cast_unsigned w32 imm))
-asked kinds.Slti imm pc a b = Sets (computed kinds.Slti a (cast_unsigned w32 imm))
-asked kinds.Sltiu imm pc a b = Sets (computed kinds.Sltiu a (cast_unsigned w32 imm))
-asked kinds.Xori imm pc a b = Sets (computed kinds.Xori a (cast_unsigned w32 imm))
-asked kinds.Ori imm pc a b = Sets (computed kinds.Ori a (cast_unsigned w32 imm))
-asked kinds.Andi imm pc a b = Sets (computed kinds.Andi a (cast_unsigned w32 imm))
-asked kinds.Slli imm pc a b = Sets (computed kinds.Slli a (cast_unsigned w32 imm))
-asked kinds.Srli imm pc a b = Sets (computed kinds.Srli a (cast_unsigned w32 imm))
-asked kinds.Srai imm pc a b = Sets (computed kinds.Srai a (cast_unsigned w32 imm))
-asked kinds.Fence imm pc a b = Passes
-asked kinds.Ecall imm pc a b = Serves
-asked kinds.Ebreak imm pc a b = Breaks
--- a kind that computes from two registers
-asked kind imm pc a b = Sets (computed kind a b)
-
--- the action of an instruction at pc, where rs1 and rs2 have the words `first` and `second`
-abbrev pub action : Operation → (pc first second : ℕ) → Action
-action i pc first second = asked i.kind i.imm pc first second
 
 -- ---- bytes and halves of a word
 
@@ -83,79 +26,121 @@ abbrev pub is_aligned : Size → (address : ℕ) → Bool
 is_aligned size address = address % size_of size == 0
 
 -- the number of k bits as a word, with its sign extended or by zeros
-abbrev pub extended : (k : ℕ) → (sign : Bool) → ℕ → ℕ
-extended k sign n = if sign then cast_unsigned w32 (signed k n) else n
+abbrev pub extend : (k : ℕ) → (sign : Bool) → ℕ → ℕ
+extend k sign n = if sign then cast_unsigned w32 (signed k n) else n
 
 -- what a load gives, where the whole word is `whole`; the lowest byte has the lowest address
-abbrev pub loaded : Size → (sign : Bool) → (address whole : ℕ) → ℕ
-loaded Byte sign address whole = extended 8 sign (whole / 2 ^ (8 * (address % 4)) % 2 ^ 8)
-loaded Half sign address whole = extended 16 sign (whole / 2 ^ (8 * (address % 4)) % 2 ^ 16)
-loaded Whole sign address whole = whole
+abbrev pub load_value : Size → (sign : Bool) → (address whole : ℕ) → ℕ
+load_value Byte sign address whole = extend 8 sign (whole / 2 ^ (8 * (address % 4)) % 2 ^ 8)
+load_value Half sign address whole = extend 16 sign (whole / 2 ^ (8 * (address % 4)) % 2 ^ 16)
+load_value Whole sign address whole = whole
 
 -- the word that a store leaves, where `whole` was there and the register has `value`
-abbrev pub stored : Size → (address whole value : ℕ) → ℕ
-stored Byte address whole value = from_le_bytes w32 (slice_set (to_le_bytes w32 whole) (address % 4) (value % 256))
-stored Half address whole value = from_le_bytes w32 (slice_set (slice_set (to_le_bytes w32 whole) (address % 4) (value % 256)) (address % 4 + 1) (value / 256 % 256))
-stored Whole address whole value = value
+abbrev pub stored_word : Size → (address whole value : ℕ) → ℕ
+stored_word Byte address whole value = from_le_bytes w32 (slice_set (to_le_bytes w32 whole) (address % 4) (value % 256))
+stored_word Half address whole value = from_le_bytes w32 (slice_set (slice_set (to_le_bytes w32 whole) (address % 4) (value % 256)) (address % 4 + 1) (value / 256 % 256))
+stored_word Whole address whole value = value
 
--- ---- what is left after one instruction
+-- ---- what one instruction changes
 
--- the registers, what comes next, and the place and the word that is put there, if any
-pub record Outcome : Type 0 where
-  pub registers : List ℕ
+-- what a memory has at an address: a word, with the place that it is in; a page that is not mapped; or nothing
+pub data Cell : Type 0 where
+  word_in : (place word : ℕ) → Cell
+  no_page : Cell
+  nothing : Cell
+
+-- the word that rd takes, if any; what comes next; and the place and the word that is put there, if any
+pub record Change : Type 0 where
+  pub result : Option ℕ
   pub next : Next
   pub write : Option (ℕ × ℕ)
 
--- the registers are these, and the place is the next
-abbrev pub goes_on : List ℕ → (place : ℕ) → Outcome
-goes_on rs place = record { registers = rs; next = At place; write = None }
+-- rd takes the word, if there is one, and the instruction at the address is next
+abbrev pub goes_on : (result : Option ℕ) → (address : ℕ) → Change
+goes_on result address = record { result = result; next = At address; write = None }
 
--- nothing has changed, and this comes next
-abbrev pub stops : List ℕ → Next → Outcome
-stops rs stop = record { registers = rs; next = stop; write = None }
+-- nothing changes, and this comes next
+abbrev pub stops : Next → Change
+stops next = record { result = None; next = next; write = None }
 
--- a load of what stands at the address, as the map shows it
-abbrev pub load_from : Shown → (word_at : ℕ → ℕ) → Size → (sign : Bool) → (address : ℕ) → List ℕ → (rd pc : ℕ) → Outcome
-load_from (Place p) word_at size sign address rs rd pc = goes_on (put rs rd (loaded size sign address (word_at p))) (follow pc)
-load_from Page word_at size sign address rs rd pc = stops rs (PageFault address)
-load_from Outside word_at size sign address rs rd pc = stops rs (Fault faults.Place address)
+-- a load of what the memory has at the address
+abbrev pub load_change : Cell → Size → (sign : Bool) → (address pc : ℕ) → Change
+load_change (word_in place word) size sign address pc = goes_on (Some (load_value size sign address word)) (follow pc)
+load_change no_page size sign address pc = stops (PageFault address)
+load_change nothing size sign address pc = stops (Fault faults.Place address)
 
--- a store to the address, as the map shows it
-abbrev pub store_to : Shown → (word_at : ℕ → ℕ) → Size → (address value : ℕ) → List ℕ → (pc : ℕ) → Outcome
-store_to (Place p) word_at size address value rs pc = record { registers = rs; next = At (follow pc); write = Some (p, stored size address (word_at p) value) }
-store_to Page word_at size address value rs pc = stops rs (PageFault address)
-store_to Outside word_at size address value rs pc = stops rs (Fault faults.Place address)
+-- a store to what the memory has at the address
+abbrev pub store_change : Cell → Size → (address value pc : ℕ) → Change
+store_change (word_in place word) size address value pc =
+    record { result = None; next = At (follow pc); write = Some (place, stored_word size address word value) }
+store_change no_page size address value pc = stops (PageFault address)
+store_change nothing size address value pc = stops (Fault faults.Place address)
 
--- what is left after an action, where rd is the destination register
-abbrev pub done : (show : ℕ → Shown) → (word_at : ℕ → ℕ) → Action → (rd : ℕ) → List ℕ → (pc : ℕ) → Outcome
-done show word_at (Sets value) rd rs pc = goes_on (put rs rd value) (follow pc)
-done show word_at Passes rd rs pc = goes_on rs (follow pc)
-done show word_at (Goes target) rd rs pc = if target % 4 == 0 then goes_on rs target else stops rs (Fault faults.Jump target)
-done show word_at (Links target) rd rs pc = if target % 4 == 0 then goes_on (put rs rd (follow pc)) target else stops rs (Fault faults.Jump target)
-done show word_at (Loads size sign address) rd rs pc = if is_aligned size address then load_from (show address) word_at size sign address rs rd pc else stops rs (Fault faults.Align address)
-done show word_at (Stores size address value) rd rs pc = if is_aligned size address then store_to (show address) word_at size address value rs pc else stops rs (Fault faults.Align address)
-done show word_at Serves rd rs pc = stops rs Service
-done show word_at Breaks rd rs pc = stops rs (Fault faults.Break pc)
+-- what an action at pc changes, by what the memory has at each address
+abbrev pub action_change : (memory : ℕ → Cell) → Action → (pc : ℕ) → Change
+action_change memory (Sets value) pc = goes_on (Some value) (follow pc)
+action_change memory Passes pc = goes_on None (follow pc)
+action_change memory (Goes target) pc = if target % 4 == 0 then goes_on None target else stops (Fault faults.Jump target)
+action_change memory (Links target) pc = if target % 4 == 0 then goes_on (Some (follow pc)) target else stops (Fault faults.Jump target)
+action_change memory (Loads size sign address) pc =
+    if is_aligned size address then load_change (memory address) size sign address pc else stops (Fault faults.Align address)
+action_change memory (Stores size address value) pc =
+    if is_aligned size address then store_change (memory address) size address value pc else stops (Fault faults.Align address)
+action_change memory Serves pc = stops Service
+action_change memory Breaks pc = stops (Fault faults.Break pc)
 
--- what the instruction asks for, at these registers
-abbrev pub action_at : Operation → List ℕ → (pc : ℕ) → Action
-action_at i rs pc = action i pc (slice_index rs i.rs1) (slice_index rs i.rs2)
+-- ---- what is left after one instruction, of registers in a list and words in places
 
--- what is left after the instruction, at these registers and words
-abbrev pub outcome : (show : ℕ → Shown) → (word_at : ℕ → ℕ) → Operation → List ℕ → (pc : ℕ) → Outcome
-outcome show word_at i rs pc = done show word_at (action_at i rs pc) i.rd rs pc
+-- the registers, what comes next, and the memory
+pub record Outcome : Type 0 where
+  pub registers : List ℕ
+  pub next : Next
+  pub memory : View
+
+-- what an address has that shows this, where each place has this word
+abbrev pub shown_cell : Shown → (word_at : ℕ → ℕ) → Cell
+shown_cell (shown.Place place) word_at = word_in place (word_at place)
+shown_cell shown.Page word_at = no_page
+shown_cell shown.Outside word_at = nothing
+
+-- what a view has at an address
+abbrev pub cell_at : View → (address : ℕ) → Cell
+cell_at view address = shown_cell (view.shown address) view.word_at
+
+-- the view after a word is put in a place, if one is
+abbrev pub put_write : View → Option (ℕ × ℕ) → View
+put_write view (Some write) = with_place view write.0 write.1
+put_write view None = view
+
+-- what is left after a change, where rd is the destination register
+abbrev pub change_outcome : View → List ℕ → (rd : ℕ) → Change → Outcome
+change_outcome view rs rd change = record { registers = put_result rs rd change.result; next = change.next; memory = put_write view change.write }
+
+-- what is left after an action
+abbrev pub action_outcome : View → Action → (rd : ℕ) → List ℕ → (pc : ℕ) → Outcome
+action_outcome view asks rd rs pc = change_outcome view rs rd (action_change (cell_at view) asks pc)
+
+-- what is left after the instruction at pc, at these registers and this memory
+abbrev pub outcome : View → Operation → List ℕ → (pc : ℕ) → Outcome
+outcome view i rs pc = action_outcome view (action_at i (slice_index rs) pc) i.rd rs pc
+
+-- what comes next, the registers and the memory are those of the outcome
+pub record HasOutcome (after : Outcome) (next : Next) (registers : List ℕ) (memory : View) : Type 0 where
+  pub next_is : next ≡ after.next
+  pub registers_are : registers ≡ after.registers
+  pub memory_is : memory ≡ after.memory
 
 -- no instruction follows at once
 abbrev pub IsStop : Next → Type 0
-IsStop (At place) = ⊥
+IsStop (At address) = ⊥
 IsStop Service = Unit {0}
 IsStop (PageFault address) = Unit {0}
 IsStop (Fault kind address) = Unit {0}
 
--- ---- which words an instruction may access
+-- ---- which words an instruction may touch
 
--- where the action accesses a place, this place is allowed
-abbrev pub MayAccess : (show : ℕ → Shown) → (allowed : ℕ → Bool) → Action → Type 0
-MayAccess show allowed (Loads size sign address) = IsTrue (is_aligned size address) → (place : ℕ) → show address ≡ Place place → IsTrue (allowed place)
-MayAccess show allowed (Stores size address value) = IsTrue (is_aligned size address) → (place : ℕ) → show address ≡ Place place → IsTrue (allowed place)
-MayAccess show allowed _ = Unit {0}
+-- where the action loads from a place or stores to it, this place is allowed
+abbrev pub MayAccess : View → Action → Type 0
+MayAccess view (Loads size sign address) = IsTrue (is_aligned size address) → (place : ℕ) → view.shown address ≡ shown.Place place → IsTrue (view.allowed place)
+MayAccess view (Stores size address value) = IsTrue (is_aligned size address) → (place : ℕ) → view.shown address ≡ shown.Place place → IsTrue (view.allowed place)
+MayAccess view _ = Unit {0}

@@ -1,9 +1,12 @@
 -- The definitions that the contracts cite.
+pub mod Action
+pub mod Address
 pub mod Alu
 pub mod Bits
 pub mod Effect
-pub mod Formats
+pub mod Format
+pub mod Machine
 pub mod Operation
-pub mod Places
-pub mod Registers
-pub mod Words
+pub mod Register
+pub mod Run
+pub mod View

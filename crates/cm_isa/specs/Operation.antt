@@ -1,7 +1,7 @@
 -- An instruction as its fields.
 use Rattle.std.specs.Prelude.{ℕ, ℤ, pos}
-use Rattle.cm_isa.specs.declared.kinds.Kind.{Kind}
-use Rattle.cm_isa.specs.declared.kinds.Kind.TheVariants as kinds
+use Rattle.cm_isa.specs.declared.kind.Kind.{Kind}
+use Rattle.cm_isa.specs.declared.kind.Kind.TheVariants as kinds
 
 -- a kind, the destination register, the two source registers, and the immediate
 pub record Operation : Type 0 where

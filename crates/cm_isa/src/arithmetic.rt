@@ -1,8 +1,8 @@
 //! What instructions compute from two words.
 ghost use Rattle.std.specs.Prelude.{◌≡◌};
-ghost use Rattle.cm_isa.specs.Alu.{computed, high, offset};
+ghost use Rattle.cm_isa.specs.Alu.{compute, high, offset};
 
-use crate::kinds::Kind;
+use crate::kind::Kind;
 
 /// The bits above the low 32 of a product.
 fn high_of(product: i64) -> u32
@@ -21,7 +21,7 @@ pub(crate) fn offset_of(base: u32, imm: i32) -> u32
 /// What a kind that computes gives, from the words of rs1 and of rs2 or the immediate (RISC-V
 /// Unprivileged ISA, RV32I 2.4 and M); 0 for the other kinds.
 pub(crate) fn compute(kind: Kind, first: u32, second: u32) -> u32
-    ensures { result ≡ computed kind first second }
+    ensures { result ≡ compute kind first second }
 {
     let (a, b) = (first.cast_signed(), second.cast_signed());
     match kind {

@@ -2,13 +2,13 @@
 //! 2.3, and the instruction listings of RV32I and RV32M).
 ghost use Rattle.std.specs.Prelude.{◌≡◌, ◌<◌, ◌≤◌, ◌%◌, ◌^◌, IfSome, unsigned_abs};
 ghost use Rattle.cm_isa.specs.Bits.{IsSigned};
-ghost use Rattle.cm_isa.specs.Formats.{Matches, Row, b_immediate, form_of, funct3, funct7, i_immediate, j_immediate, opcode, rd_field, rs1_field, rs2_field, s_immediate, u_immediate};
+ghost use Rattle.cm_isa.specs.Format.{Matches, Row, b_immediate, form_of, funct3, funct7, i_immediate, j_immediate, opcode, rd_field, rs1_field, rs2_field, s_immediate, u_immediate};
 ghost use Rattle.cm_isa.specs.Operation.{Operation};
-ghost use Rattle.cm_isa.specs.declared.kinds.Kind.{Kind};
+ghost use Rattle.cm_isa.specs.declared.kind.Kind.{Kind};
 
-use crate::fields::{bits_of, signed_of, word_of};
-use crate::instructions::Instr;
-use crate::kinds::{Format, Kind, format_of};
+use crate::field::{bits_of, signed_of, word_of};
+use crate::instruction::Instr;
+use crate::kind::{Format, Kind, format_of};
 
 /// The word of an instruction.
 pub fn encode(instr: Instr) -> u32

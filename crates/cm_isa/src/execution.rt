@@ -1,17 +1,19 @@
 //! The effect of one instruction, in two stages: what it asks for, and what is done (RISC-V
 //! Unprivileged ISA, RV32I 2.4 to 2.8 and M).
-ghost use Rattle.std.specs.Prelude.{◌≡◌, ◌<◌, ◌%◌, ℕ, IsTrue, List};
-ghost use Rattle.cm_isa.specs.Effect.{IsStop, MayAccess, Outcome, action, action_at, branch, done, follow, is_aligned, loaded, outcome, stored};
-ghost use Rattle.cm_isa.specs.Words.{SameWords, Writes};
+ghost use Rattle.std.specs.Prelude.{◌≡◌, ◌<◌, ◌%◌, ℕ, IsTrue, List, slice_index};
+ghost use Rattle.cm_isa.specs.Action.{action, action_at, branch, follow};
+ghost use Rattle.cm_isa.specs.Effect.{HasOutcome, IsStop, MayAccess, action_outcome, is_aligned, load_value, outcome, stored_word};
+ghost use Rattle.cm_isa.specs.Register.{IsRegisters};
+ghost use Rattle.cm_isa.specs.View.{SameMap};
 ghost use Rattle.cm_isa.specs.declared.execution.Action.TheVariants.{Loads, Stores};
 ghost use Rattle.cm_isa.specs.declared.execution.Next.TheVariants.{Fault};
 
 use crate::arithmetic::{compute, offset_of};
-use crate::fields::signed_of;
-use crate::instructions::Instr;
-use crate::kinds::Kind;
+use crate::field::signed_of;
+use crate::instruction::Instr;
+use crate::kind::Kind;
 use crate::memory::{Shown, Words};
-use crate::registers::Regs;
+use crate::register::Regs;
 
 /// Why an instruction has no effect.
 #[derive(Clone, Copy, Debug, PartialEq, Eq)]
@@ -22,7 +24,7 @@ pub enum FaultKind {
     Align,
     /// The address is outside the memory.
     Place,
-    /// The target of a jump or of a taken branch is no place of an instruction.
+    /// The target of a jump or of a taken branch is no address of an instruction.
     Jump,
     /// A breakpoint, `ebreak`.
     Break,
@@ -31,7 +33,7 @@ pub enum FaultKind {
 /// What comes after an instruction.
 #[derive(Clone, Copy, Debug, PartialEq, Eq)]
 pub enum Next {
-    /// The instruction at this place.
+    /// The instruction at this address.
     At(u32),
     /// A service of the environment, which `ecall` asks for.
     Service,
@@ -44,7 +46,7 @@ pub enum Next {
     Fault {
         /// Why it can't.
         kind: FaultKind,
-        /// The address of the load or store, the target of the jump, or the place of the `ebreak`.
+        /// The address of the load or store, the target of the jump, or that of the `ebreak`.
         address: u32,
     },
 }
@@ -69,7 +71,7 @@ pub enum Action {
     Passes,
     /// To the target: a branch that is taken.
     Goes(u32),
-    /// rd takes the place of the next instruction, and the target follows.
+    /// rd takes the address of the next instruction, and the target follows.
     Links(u32),
     /// rd takes what is loaded: how many bytes, whether their sign is extended, and the address.
     Loads(Size, bool, u32),
@@ -81,7 +83,7 @@ pub enum Action {
     Breaks,
 }
 
-/// The place of the next instruction.
+/// The address of the next instruction.
 fn following(pc: u32) -> u32
     ensures { result ≡ follow pc }
 {
@@ -160,8 +162,8 @@ fn has_alignment(size: Size, address: u32) -> bool
 }
 
 /// What a load gives, where the whole word is `whole`.
-fn loaded_value(size: Size, sign: bool, address: u32, whole: u32) -> u32
-    ensures { result ≡ loaded size sign address whole }
+fn load_value(size: Size, sign: bool, address: u32, whole: u32) -> u32
+    ensures { result ≡ load_value size sign address whole }
 {
     let shifted = whole >> (8 * (address % 4));
     match size {
@@ -176,7 +178,7 @@ fn loaded_value(size: Size, sign: bool, address: u32, whole: u32) -> u32
 /// The word that a store leaves, where `whole` was there.
 fn stored_word(size: Size, address: u32, whole: u32, value: u32) -> u32
     requires { IsTrue (is_aligned size address) }
-    ensures { result ≡ stored size address whole value }
+    ensures { result ≡ stored_word size address whole value }
 {
     let mut bytes = whole.to_le_bytes();
     let at = (address % 4) as usize;
@@ -205,24 +207,18 @@ fn load<W: Words>(
     words: &mut W,
 ) -> Next
     requires register { rd < 32 }
-    requires allowed { MayAccess
-        (W.shown words.old) (W.allowed words.old) (Loads size sign address) }
-    ensures next { let load = Loads size sign address in
-        let after = done (W.shown words.old) (W.word_at words.old) load rd regs.old pc in
-        result ≡ after.next }
-    ensures registers { let load = Loads size sign address in
-        let after = done (W.shown words.old) (W.word_at words.old) load rd regs.old pc in
-        regs.new ≡ after.registers }
-    ensures words { let load = Loads size sign address in
-        let after = done (W.shown words.old) (W.word_at words.old) load rd regs.old pc in
-        Writes (W.word_at words.old) (W.word_at words.new) after.write }
-    ensures unchanged { IsStop result →
-        (regs.new ≡ regs.old) × SameWords (W.word_at words.old) (W.word_at words.new) }
-    ensures page_fault { (a : ℕ) → result ≡ Next.PageFault a → W.shown words.old a ≡ Shown.Page }
+    requires allowed { MayAccess (W.view words.old) (Loads size sign address) }
+    ensures outcome { let load = Loads size sign address in
+        let after = action_outcome (W.view words.old) load rd regs.old pc in
+        HasOutcome after result regs.new (W.view words.new) }
+    ensures stop { IsStop result →
+        (regs.new ≡ regs.old) × (W.view words.new ≡ W.view words.old) }
+    ensures page_fault { (a : ℕ) → result ≡ Next.PageFault a →
+        (W.view words.old).shown a ≡ Shown.Page }
     ensures outside { (a : ℕ) → result ≡ Next.Fault FaultKind.Place a →
-        W.shown words.old a ≡ Shown.Outside }
-    ensures same_map { W.shown words.new ≡ W.shown words.old }
-    ensures same_allowed { W.allowed words.new ≡ W.allowed words.old }
+        (W.view words.old).shown a ≡ Shown.Outside }
+    ensures same_map { SameMap (W.view words.old) (W.view words.new) }
+    ensures same_rest { W.rest words.new ≡ W.rest words.old }
 {
     if !has_alignment(size, address) {
         return fault(FaultKind::Align, address);
@@ -230,7 +226,7 @@ fn load<W: Words>(
     match words.show(address) {
         Shown::Place(place) => {
             let whole = words.load(place);
-            regs.set(rd, loaded_value(size, sign, address, whole));
+            regs.set(rd, load_value(size, sign, address, whole));
             Next::At(following(pc))
         }
         Shown::Page => Next::PageFault { address },
@@ -238,26 +234,20 @@ fn load<W: Words>(
     }
 }
 
-/// Stores the low bytes of a register's word. The clauses hold at any registers and rd, which a store
+/// Stores the low bytes of a register's word. The outcome is said at any registers and rd, which a store
 /// leaves alone.
 fn store<W: Words>(size: Size, address: u32, value: u32, pc: u32, words: &mut W) -> Next
-    requires allowed { MayAccess
-        (W.shown words.old) (W.allowed words.old) (Stores size address value) }
-    ensures next { (rd : ℕ) (rs : List ℕ) → let store = Stores size address value in
-        let after = done (W.shown words.old) (W.word_at words.old) store rd rs pc in
-        result ≡ after.next }
-    ensures registers { (rd : ℕ) (rs : List ℕ) → let store = Stores size address value in
-        let after = done (W.shown words.old) (W.word_at words.old) store rd rs pc in
-        after.registers ≡ rs }
-    ensures words { (rd : ℕ) (rs : List ℕ) → let store = Stores size address value in
-        let after = done (W.shown words.old) (W.word_at words.old) store rd rs pc in
-        Writes (W.word_at words.old) (W.word_at words.new) after.write }
-    ensures unchanged { IsStop result → SameWords (W.word_at words.old) (W.word_at words.new) }
-    ensures page_fault { (a : ℕ) → result ≡ Next.PageFault a → W.shown words.old a ≡ Shown.Page }
+    requires allowed { MayAccess (W.view words.old) (Stores size address value) }
+    ensures outcome { (rd : ℕ) (rs : List ℕ) → let store = Stores size address value in
+        let after = action_outcome (W.view words.old) store rd rs pc in
+        HasOutcome after result rs (W.view words.new) }
+    ensures stop { IsStop result → W.view words.new ≡ W.view words.old }
+    ensures page_fault { (a : ℕ) → result ≡ Next.PageFault a →
+        (W.view words.old).shown a ≡ Shown.Page }
     ensures outside { (a : ℕ) → result ≡ Next.Fault FaultKind.Place a →
-        W.shown words.old a ≡ Shown.Outside }
-    ensures same_map { W.shown words.new ≡ W.shown words.old }
-    ensures same_allowed { W.allowed words.new ≡ W.allowed words.old }
+        (W.view words.old).shown a ≡ Shown.Outside }
+    ensures same_map { SameMap (W.view words.old) (W.view words.new) }
+    ensures same_rest { W.rest words.new ≡ W.rest words.old }
 {
     if !has_alignment(size, address) {
         return fault(FaultKind::Align, address);
@@ -283,20 +273,18 @@ fn store<W: Words>(size: Size, address: u32, value: u32, pc: u32, words: &mut W)
 /// that is no multiple of 4 is a fault (Jump), and `ebreak` is one (Break). After a fault, a page
 /// fault or a service the registers and words are as they were.
 pub fn effect<W: Words>(instr: Instr, regs: &mut Regs, pc: u32, words: &mut W) -> Next
-    requires { MayAccess (W.shown words.old) (W.allowed words.old) (action_at instr regs.old pc) }
-    ensures next { result ≡
-        (outcome (W.shown words.old) (W.word_at words.old) instr regs.old pc).next }
-    ensures registers { regs.new ≡
-        (outcome (W.shown words.old) (W.word_at words.old) instr regs.old pc).registers }
-    ensures words { let after = outcome (W.shown words.old) (W.word_at words.old) instr regs.old pc in
-        Writes (W.word_at words.old) (W.word_at words.new) after.write }
-    ensures unchanged { IsStop result →
-        (regs.new ≡ regs.old) × SameWords (W.word_at words.old) (W.word_at words.new) }
-    ensures page_fault { (a : ℕ) → result ≡ Next.PageFault a → W.shown words.old a ≡ Shown.Page }
+    requires { MayAccess (W.view words.old) (action_at instr (slice_index regs.old) pc) }
+    ensures outcome { let after = outcome (W.view words.old) instr regs.old pc in
+        HasOutcome after result regs.new (W.view words.new) }
+    ensures stop { IsStop result →
+        (regs.new ≡ regs.old) × (W.view words.new ≡ W.view words.old) }
+    ensures page_fault { (a : ℕ) → result ≡ Next.PageFault a →
+        (W.view words.old).shown a ≡ Shown.Page }
     ensures outside { (a : ℕ) → result ≡ Next.Fault FaultKind.Place a →
-        W.shown words.old a ≡ Shown.Outside }
-    ensures same_map { W.shown words.new ≡ W.shown words.old }
-    ensures same_allowed { W.allowed words.new ≡ W.allowed words.old }
+        (W.view words.old).shown a ≡ Shown.Outside }
+    ensures registers { IsRegisters regs.old }
+    ensures same_map { SameMap (W.view words.old) (W.view words.new) }
+    ensures same_rest { W.rest words.new ≡ W.rest words.old }
 {
     let action = action_of(instr, pc, regs.get(instr.rs1()), regs.get(instr.rs2()));
     let rd = instr.rd();

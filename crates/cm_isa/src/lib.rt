@@ -4,20 +4,24 @@
 
 mod arithmetic;
 mod coding;
+pub mod convention;
 mod execution;
-mod fields;
-mod instructions;
-mod kinds;
-mod laws;
+mod field;
+mod instruction;
+mod kind;
+mod law;
 mod memory;
-mod registers;
+mod register;
 #[cfg(test)]
 mod tests;
 
 pub use coding::{decode, encode};
 pub use execution::{Action, FaultKind, Next, Size, effect};
-pub use instructions::Instr;
-pub use kinds::{Format, Kind};
-pub use laws::{one_instruction_per_word, one_word_per_instruction};
+pub use instruction::Instr;
+pub use kind::{Format, Kind};
+pub use law::{
+    machines_do_what_outcomes_say, one_instruction_per_word, one_word_per_instruction,
+    replies_determine_runs, runs_join_and_split, runs_keep_more_words,
+};
 pub use memory::{Shown, Words};
-pub use registers::Regs;
+pub use register::Regs;

@@ -1,6 +1,6 @@
 //! The words of memory, as an instruction sees them.
 ghost use Rattle.std.specs.Prelude.{◌≡◌, IsTrue};
-ghost use Rattle.cm_isa.specs.Words.{Puts, SameWords};
+ghost use Rattle.cm_isa.specs.View.{Puts, SameMap};
 
 /// What the map shows at an address.
 #[derive(Clone, Copy, Debug, PartialEq, Eq)]
@@ -14,35 +14,37 @@ pub enum Shown {
 }
 
 /// Words of 32 bits in places, which addresses show. Two addresses may show the same place.
+///
+/// An instruction sees no more of it than its `view`. The `rest` is what its owner knows beside that,
+/// as the pages of its map, and neither a load nor a store changes it.
 pub trait Words {
-    ghost use Rattle.std.specs.Prelude.{ℕ, Bool};
-    ghost use Rattle.cm_isa.specs.declared.memory.Shown.{Shown};
+    ghost use Rattle.cm_isa.specs.View.{View};
 
-    /// What the map shows at an address.
-    ghost shown: { Self → ℕ → Shown };
+    /// What an instruction sees: what is shown at each address, which places the caller may touch, and
+    /// the word in each place.
+    ghost view: { Self → View };
 
-    /// Whether the caller may load and store at a place.
-    ghost allowed: { Self → ℕ → Bool };
+    /// The type of what the owner knows beside the view.
+    ghost Rest: { Type 0 };
 
-    /// The word at a place.
-    ghost word_at: { Self → ℕ → ℕ };
+    /// What the owner knows beside the view.
+    ghost rest: { Self → Rest };
 
     /// What the map shows at an address.
     fn show(&self, address: u32) -> Shown
-        ensures { result ≡ shown self.now address };
+        ensures { result ≡ (view self.now).shown address };
 
-    /// The word at an allowed place.
+    /// The word in an allowed place.
     fn load(&mut self, place: u32) -> u32
-        requires { IsTrue (allowed self.old place) }
-        ensures word { result ≡ word_at self.old place }
-        ensures words { SameWords (word_at self.old) (word_at self.new) }
-        ensures same_map { shown self.new ≡ shown self.old }
-        ensures same_allowed { allowed self.new ≡ allowed self.old };
+        requires { IsTrue ((view self.old).allowed place) }
+        ensures word { result ≡ (view self.old).word_at place }
+        ensures same_view { view self.new ≡ view self.old }
+        ensures same_rest { rest self.new ≡ rest self.old };
 
-    /// Puts a word at an allowed place.
+    /// Puts a word in an allowed place.
     fn store(&mut self, place: u32, word: u32)
-        requires { IsTrue (allowed self.old place) }
-        ensures words { Puts (word_at self.old) (word_at self.new) place word }
-        ensures same_map { shown self.new ≡ shown self.old }
-        ensures same_allowed { allowed self.new ≡ allowed self.old };
+        requires { IsTrue ((view self.old).allowed place) }
+        ensures words { Puts (view self.old) (view self.new) place word }
+        ensures same_map { SameMap (view self.old) (view self.new) }
+        ensures same_rest { rest self.new ≡ rest self.old };
 }

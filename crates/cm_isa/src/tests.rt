@@ -98,14 +98,18 @@ struct Memory {
 }
 
 impl Words for Memory {
-    ghost use Rattle.std.specs.Prelude.{◌/◌, nat_lt, if◌then◌else◌, slice_index};
+    ghost use Rattle.std.specs.Prelude.{ℕ, ◌/◌, nat_lt, if◌then◌else◌, length, slice_index};
     ghost use Rattle.cm_isa.specs.declared.memory.Shown.TheVariants.{Place, Page, Outside};
 
-    ghost shown = { λ m a. if nat_lt a 16 then Place (a / 4) else (if nat_lt a 32 then Page else Outside) };
+    ghost view = { λ m. record {
+      shown = λ a. if nat_lt a 16 then Place (a / 4) else (if nat_lt a 32 then Page else Outside);
+      allowed = λ p. nat_lt p 4;
+      word_at = slice_index m.words;
+    } };
 
-    ghost allowed = { λ m p. nat_lt p 4 };
+    ghost Rest = { ℕ };
 
-    ghost word_at = { λ m p. slice_index m.words p };
+    ghost rest = { λ m. length m.words };
 
     fn show(&self, address: u32) -> Shown {
         if address < 16 {

@@ -110,7 +110,7 @@ abbrev FitsFirst : ℕ → Quantity → Type 0
 FitsFirst n first = (token : Token) → FitsAt n token first
 
 declaration_fits : (n : ℕ) (first : Quantity) (d : Declaration) → FitsFirst n first → Fit n (declaration_tokens first d)
-declaration_fits n first d h = (h _, declarators_fit (n + 1) d.declarators)
+declaration_fits n first d h = (h _, declarators_fit (n + 1) d.items)
 
 written_fits : (n : ℕ) (first : Quantity) (w : grammar.Target) → FitsFirst n first → Fit n (target_tokens first w)
 written_fits n first (grammar.Target.scalar x) h = (h _, tt)

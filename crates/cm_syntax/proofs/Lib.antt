@@ -1,5 +1,5 @@
 -- The lemmas that the proofs share.
-pub mod Rows
+pub mod ValueRows
 pub mod FrameLaws
 pub mod StatementLaws
 pub mod Spelling
@@ -8,13 +8,11 @@ pub mod RefusalLaws
 pub mod Lexing
 pub mod ProgramLaws
 pub mod SourceRows
+pub mod machine
 pub mod NameRows
 pub mod SoundLaws
 pub mod BoundLaws
 pub mod AnswerLaws
-pub mod Reading
-pub mod OneTree
-pub mod OneProgram
 pub mod OneAnswer
 pub mod NameLaws
 pub mod NumberLaws

@@ -61,7 +61,7 @@ mutual
         length-append (statement_slots header step) (statement_slots inner body),
         slots_counted (inner_scope scope) first,
         slots_counted header step,
-        slots_counted inner body
+        slots_counted inner body,
       )
   slots_counted scope (statement.Split' whole index left right _ body close) =
       omega (arith, row_slots_counted (inner_scope (split_scope scope whole left right)) body)

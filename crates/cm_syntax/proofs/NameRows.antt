@@ -8,7 +8,7 @@ use Rattle.cm_syntax.specs.ParseTree.{Expression, Arguments, Argument, AnyExpres
 use Rattle.cm_syntax.specs.ParseTree as grammar
 use Rattle.cm_syntax.specs.Yield.{program_tokens, located_tokens}
 use Rattle.cm_syntax.specs.Grammar.{IsSourceOf}
-use Rattle.cm_syntax.specs.Row.{HasFaults, HasFrames, ResolvesToSlot, IsSoundSource}
+use Rattle.cm_syntax.specs.Row.{HasFaults, HasFrames, HasNumbers, UpdatesBy, ResolvesToSlot, IsSoundSource}
 use Rattle.cm_syntax.specs.Resolution.{Role}
 use Rattle.cm_syntax.specs.Fault.{Variant}
 use Rattle.cm_syntax.proofs.BoundLaws.{no_refusal}
@@ -55,7 +55,7 @@ unknown_row = (tree_of unknown_source 24, (located_tokens (program_tokens unknow
 abbrev part_outside_source : grammar.Program
 part_outside_source = grammar.Program.last (definition None true 0 (mark (codes "main") 4) 8 Parameters.none 9 11 (Statements.declare (record {
   int_at = 13;
-  declarators = (grammar.Items.last (grammar.Item.array (mark (codes "a") 17) 18 19 2 20));
+  items = (grammar.Items.last (grammar.Item.array (mark (codes "a") 17) 18 19 2 20));
 }) 21 (Statements.plain (Plain.split 23 (mark (codes "a") 29)
     31 (AnyExpression.any (Expression.literal 34 1)) 36 (mark (codes "l") 39) 40 (mark (codes "r") 42) 44 Statements.none 46) (Statements.plain (Plain.return 48
     (Some (AnyExpression.any (Expression.len 55 58 (mark (codes "l") 59) 60))) 61) Statements.none))) 63)
@@ -67,7 +67,7 @@ part_outside_row = (tree_of part_outside_source 64, (located_tokens (program_tok
 abbrev whole_inside_source : grammar.Program
 whole_inside_source = grammar.Program.last (definition None true 0 (mark (codes "main") 4) 8 Parameters.none 9 11 (Statements.declare (record {
   int_at = 13;
-  declarators = (grammar.Items.last (grammar.Item.array (mark (codes "a") 17) 18 19 2 20));
+  items = (grammar.Items.last (grammar.Item.array (mark (codes "a") 17) 18 19 2 20));
 }) 21 (Statements.plain (Plain.split 23 (mark (codes "a") 29)
     31 (AnyExpression.any (Expression.literal 34 1)) 36 (mark (codes "l") 39) 40 (mark (codes "r") 42) 44 (Statements.plain (Plain.return 46 (Some (AnyExpression.any
     (Expression.len 53 56 (mark (codes "a") 57) 58))) 59) Statements.none) 61) (Statements.plain (Plain.return 63 (Some (AnyExpression.any (Expression.literal
@@ -80,9 +80,9 @@ whole_inside_row = (tree_of whole_inside_source 74, (located_tokens (program_tok
 abbrev outer_whole_source : grammar.Program
 outer_whole_source = grammar.Program.last (definition None true 0 (mark (codes "main") 4) 8 Parameters.none 9 11 (Statements.declare (record {
   int_at = 13;
-  declarators = (grammar.Items.last (grammar.Item.array (mark (codes "a") 17) 18 19 2 20));
+  items = (grammar.Items.last (grammar.Item.array (mark (codes "a") 17) 18 19 2 20));
 }) 21 (Statements.plain (Plain.block 23 (Statements.declare
-    (record { int_at = 25; declarators = (grammar.Items.last (grammar.Item.array (mark (codes "a") 29) 30 31 3 32)) }) 33 (Statements.plain (Plain.split
+    (record { int_at = 25; items = (grammar.Items.last (grammar.Item.array (mark (codes "a") 29) 30 31 3 32)) }) 33 (Statements.plain (Plain.split
     35 (mark (codes "a") 41) 43 (AnyExpression.any (Expression.literal 46 1)) 48 (mark (codes "l") 51) 52 (mark (codes "a") 54) 56 (Statements.plain
     (Plain.simple (Simple.assign (grammar.Target.element (mark (codes "a") 58) 59 (AnyExpression.any (Expression.literal 60 0)) 61) 63 (AnyExpression.any (Expression.len 65 68
     (mark (codes "l") 69) 70))) 71) Statements.none) 73) Statements.none)) 75) (Statements.plain (Plain.return 77 (Some (AnyExpression.any (Expression.literal
@@ -95,9 +95,9 @@ outer_whole_row = (tree_of outer_whole_source 88, (located_tokens (program_token
 abbrev deeper_whole_source : grammar.Program
 deeper_whole_source = grammar.Program.last (definition None true 0 (mark (codes "main") 4) 8 Parameters.none 9 11 (Statements.declare (record {
   int_at = 13;
-  declarators = (grammar.Items.last (grammar.Item.array (mark (codes "a") 17) 18 19 2 20));
+  items = (grammar.Items.last (grammar.Item.array (mark (codes "a") 17) 18 19 2 20));
 }) 21 (Statements.plain (Plain.block 23 (Statements.declare
-    (record { int_at = 25; declarators = (grammar.Items.last (grammar.Item.array (mark (codes "a") 29) 30 31 3 32)) }) 33 (Statements.plain (Plain.split
+    (record { int_at = 25; items = (grammar.Items.last (grammar.Item.array (mark (codes "a") 29) 30 31 3 32)) }) 33 (Statements.plain (Plain.split
     35 (mark (codes "a") 41) 43 (AnyExpression.any (Expression.literal 46 1)) 48 (mark (codes "l") 51) 52 (mark (codes "r") 54) 56 (Statements.plain
     (Plain.return 58 (Some (AnyExpression.any (Expression.len 65 68 (mark (codes "a") 69) 70))) 71) Statements.none) 73) Statements.none)) 75) (Statements.plain
     (Plain.return 77 (Some (AnyExpression.any (Expression.literal 84 0))) 85) Statements.none))) 87)
@@ -109,11 +109,11 @@ deeper_whole_row = (tree_of deeper_whole_source 88, (located_tokens (program_tok
 abbrev same_parts_source : grammar.Program
 same_parts_source = grammar.Program.last (definition None true 0 (mark (codes "main") 4) 8 Parameters.none 9 11 (Statements.declare (record {
   int_at = 13;
-  declarators = (grammar.Items.last (grammar.Item.array (mark (codes "a") 17) 18 19 2 20));
+  items = (grammar.Items.last (grammar.Item.array (mark (codes "a") 17) 18 19 2 20));
 }) 21 (Statements.plain (Plain.split 23 (mark (codes "a") 29)
     31 (AnyExpression.any (Expression.literal 34 1)) 36 (mark (codes "l") 39) 40 (mark (codes "l") 42) 44 (Statements.declare (record {
       int_at = 46;
-      declarators
+      items
           = (grammar.Items.last (grammar.Item.scalar (mark (codes "l") 50)));
     }) 51 Statements.none) 53) (Statements.plain (Plain.return 55 (Some (AnyExpression.any
     (Expression.literal 62 0))) 63) Statements.none))) 65)
@@ -126,7 +126,7 @@ same_parts_row = (tree_of same_parts_source 66, (located_tokens (program_tokens 
 abbrev own_value_source : grammar.Program
 own_value_source = grammar.Program.last (definition None true 0 (mark (codes "main") 4) 8 Parameters.none 9 11 (Statements.declare (record {
   int_at = 13;
-  declarators = (grammar.Items.last (grammar.Item.set (mark (codes "x") 17) 19 (AnyExpression.any (Expression.variable (mark (codes "x") 21)))));
+  items = (grammar.Items.last (grammar.Item.set (mark (codes "x") 17) 19 (AnyExpression.any (Expression.variable (mark (codes "x") 21)))));
 }) 22
     (Statements.plain (Plain.return 24 (Some (AnyExpression.any (Expression.variable (mark (codes "x") 31)))) 32) Statements.none)) 34)
 
@@ -138,12 +138,12 @@ abbrev for_scope_source : grammar.Program
 for_scope_source = grammar.Program.last (definition None true 0 (mark (codes "main") 4) 8 Parameters.none 9 11 (Statements.plain (Plain.for 13 17
     (FirstPart.declare (record {
       int_at = 18;
-      declarators = (grammar.Items.last (grammar.Item.set (mark (codes "i") 22) 24 (AnyExpression.any (Expression.literal 26
+      items = (grammar.Items.last (grammar.Item.set (mark (codes "i") 22) 24 (AnyExpression.any (Expression.literal 26
           0))));
     })) 27 (Some (AnyExpression.any (Expression.joined op.Lt refl (Expression.variable (mark (codes "i") 29)) (omega arith) 31 (Expression.literal 33 3)
     (omega arith)))) 34 (Some (Simple.step_after (grammar.Target.scalar (mark (codes "i") 36)) true 37)) 39 (Plain.block 41 (Statements.declare (record {
       int_at = 43;
-      declarators = (grammar.Items.last (grammar.Item.scalar (mark (codes "i") 47)));
+      items = (grammar.Items.last (grammar.Item.scalar (mark (codes "i") 47)));
     }) 48 Statements.none) 50)) (Statements.plain
     (Plain.return 52 (Some (AnyExpression.any (Expression.variable (mark (codes "i") 59)))) 60) Statements.none)) 62)
 
@@ -155,11 +155,11 @@ abbrev parameter_scope_source : grammar.Program
 parameter_scope_source = grammar.Program.before (definition None true 0 (mark (codes "f") 4) 5 (Parameters.list (ParameterList.before (Parameter.scalar 6 (mark
     (codes "a") 10)) 11 (ParameterList.last (Parameter.scalar 13 (mark (codes "b") 17))))) 18 20 (Statements.declare (record {
       int_at = 22;
-      declarators =
+      items =
           (grammar.Items.last (grammar.Item.scalar (mark (codes "b") 26)));
     }) 27 (Statements.plain (Plain.block 29 (Statements.declare (record {
       int_at = 31;
-      declarators = (grammar.Items.last (grammar.Item.scalar (mark (codes "a") 35)));
+      items = (grammar.Items.last (grammar.Item.scalar (mark (codes "a") 35)));
     }) 36 Statements.none) 38) (Statements.plain (Plain.return 40 (Some
     (AnyExpression.any (Expression.variable (mark (codes "a") 47)))) 48) Statements.none))) 50) (grammar.Program.last (definition None true 52 (mark (codes "main") 56)
     60 Parameters.none 61 63 (Statements.plain (Plain.return 65 (Some (AnyExpression.any (Expression.literal 72 0))) 73) Statements.none) 75))
@@ -174,7 +174,7 @@ arguments_source = grammar.Program.before (definition None true 0 (mark (codes "
     10) 11 12))) 13 15 (Statements.plain (Plain.return 17 (Some (AnyExpression.any (Expression.element (mark (codes "a") 24) 25 (Expression.literal 26 0) 27)))
     28) Statements.none) 30) (grammar.Program.last (definition None true 32 (mark (codes "main") 36) 40 Parameters.none 41 43 (Statements.declare (record {
       int_at = 45;
-      declarators = (grammar.Items.last (grammar.Item.scalar (mark (codes "x") 49)));
+      items = (grammar.Items.last (grammar.Item.scalar (mark (codes "x") 49)));
     }) 50 (Statements.plain (Plain.return 52 (Some (AnyExpression.any
     (Expression.joined op.Add refl (Expression.joined op.Add refl (Expression.called (grammar.Call.with_ (mark (codes "f") 59) 60 (Arguments.last
     (Argument.value (Expression.variable (mark (codes "x") 61)))) 62)) (omega arith) 64 (Expression.called (grammar.Call.with_ (mark (codes "f") 66) 67
@@ -191,7 +191,7 @@ misused_source = grammar.Program.before (definition None false 0 (mark (codes "v
     (Expression.literal 18 1))) 19) Statements.none) 21) (grammar.Program.last (definition None true 23 (mark (codes "main") 27) 31 Parameters.none 32 34
     (Statements.declare (record {
       int_at = 36;
-      declarators = (grammar.Items.before (grammar.Item.scalar (mark (codes "x") 40)) 41 (grammar.Items.last
+      items = (grammar.Items.before (grammar.Item.scalar (mark (codes "x") 40)) 41 (grammar.Items.last
           (grammar.Item.array (mark (codes "a") 43) 44 45 2 46)));
     }) 47 (Statements.plain (Plain.simple (Simple.assign (grammar.Target.scalar (mark (codes "x") 49))
     51 (AnyExpression.any (Expression.variable (mark (codes "a") 53)))) 54) (Statements.plain (Plain.simple (Simple.assign (grammar.Target.scalar (mark (codes "a")
@@ -223,7 +223,7 @@ destinations_source = grammar.Program.before (definition None false 0 (mark (cod
     "a") 11) 12 13))) 14 16 (Statements.plain (Plain.return 18 None 24) Statements.none) 26) (grammar.Program.last (definition (Some 28) true 33 (mark (codes
     "main") 37) 41 Parameters.none 42 44 (Statements.declare (record {
       int_at = 46;
-      declarators = (grammar.Items.before (grammar.Item.scalar (mark (codes
+      items = (grammar.Items.before (grammar.Item.scalar (mark (codes
           "x") 50)) 51 (grammar.Items.last (grammar.Item.array (mark (codes "a") 53) 54 55 2 56)));
     }) 57 (Statements.plain (Plain.split 59 (mark (codes "x") 65)
     67 (AnyExpression.any (Expression.literal 70 0)) 72 (mark (codes "l") 75) 76 (mark (codes "r") 78) 80 Statements.none 82) (Statements.plain (Plain.simple
@@ -243,7 +243,7 @@ void_main_source = grammar.Program.before (definition None true 0 (mark (codes "
     "v") 10)))) 11 13 (Statements.plain (Plain.spawn 15 (grammar.Call.with_ (mark (codes "h") 21) 22 (Arguments.last (Argument.value
     (Expression.variable (mark (codes "v") 23)))) 24) 25) (Statements.plain (Plain.return 27 (Some (AnyExpression.any (Expression.variable (mark (codes "v")
     34)))) 35) Statements.none)) 37) (grammar.Program.last (definition None false 39 (mark (codes "main") 44) 48 Parameters.none 49 51 (Statements.declare
-    (record { int_at = 53; declarators = (grammar.Items.last (grammar.Item.array (mark (codes "a") 57) 58 59 1 60)) }) 61 (Statements.plain (Plain.simple
+    (record { int_at = 53; items = (grammar.Items.last (grammar.Item.array (mark (codes "a") 57) 58 59 1 60)) }) 61 (Statements.plain (Plain.simple
     (Simple.call (grammar.Call.with_ (mark (codes "h") 63) 64 (Arguments.last (Argument.address 65 (mark (codes "a") 66))) 67)) 68) Statements.none))
     70))
 
@@ -274,7 +274,7 @@ many_words_row = (tree_of many_words_source 87, (located_tokens (program_tokens 
 abbrev great_frame_source : grammar.Program
 great_frame_source = grammar.Program.last (definition None true 0 (mark (codes "main") 4) 8 Parameters.none 9 11 (Statements.declare (record {
   int_at = 13;
-  declarators = (grammar.Items.before (grammar.Item.array (mark (codes "a") 17) 18 19 16384 24) 25 (grammar.Items.last (grammar.Item.array (mark (codes "b")
+  items = (grammar.Items.before (grammar.Item.array (mark (codes "a") 17) 18 19 16384 24) 25 (grammar.Items.last (grammar.Item.array (mark (codes "b")
       27) 28 29 16384 34)));
 }) 35 (Statements.plain (Plain.return 37 (Some (AnyExpression.any (Expression.literal 44 0))) 45) Statements.none)) 47)
 
@@ -288,7 +288,7 @@ abbrev fibonacci_source : grammar.Program
 fibonacci_source = grammar.Program.before (definition (Some 0) true 5 (mark (codes "fib") 9) 12 (Parameters.list (ParameterList.last (Parameter.scalar 13 (mark
     (codes "n") 17)))) 18 20 (Statements.declare (record {
       int_at = 22;
-      declarators = (grammar.Items.before (grammar.Item.scalar (mark (codes "x") 26)) 27
+      items = (grammar.Items.before (grammar.Item.scalar (mark (codes "x") 26)) 27
           (grammar.Items.last (grammar.Item.scalar (mark (codes "y") 29))));
     }) 30 (Statements.plain (Plain.if_alone 32 35 (AnyExpression.any (Expression.joined op.Lt refl
     (Expression.variable (mark (codes "n") 36)) (omega arith) 38 (Expression.literal 40 2) (omega arith))) 41 (Plain.return 43 (Some (AnyExpression.any
@@ -299,7 +299,7 @@ fibonacci_source = grammar.Program.before (definition (Some 0) true 5 (mark (cod
     (Expression.literal 93 2) (omega arith)))) 94) 95) (Statements.plain (Plain.sync 97 101) (Statements.plain (Plain.return 103 (Some (AnyExpression.any
     (Expression.joined op.Add refl (Expression.variable (mark (codes "x") 110)) (omega arith) 112 (Expression.variable (mark (codes "y") 114)) (omega
     arith)))) 115) Statements.none)))))) 117) (grammar.Program.last (definition (Some 119) true 124 (mark (codes "main") 128) 132 Parameters.none 133 135
-    (Statements.declare (record { int_at = 137; declarators = (grammar.Items.last (grammar.Item.scalar (mark (codes "r") 141))) }) 142 (Statements.plain
+    (Statements.declare (record { int_at = 137; items = (grammar.Items.last (grammar.Item.scalar (mark (codes "r") 141))) }) 142 (Statements.plain
     (Plain.spawn_into (mark (codes "r") 144) 146 148 (grammar.Call.with_ (mark (codes "fib") 154) 157 (Arguments.last (Argument.value
     (Expression.literal 158 10))) 160) 161) (Statements.plain (Plain.sync 163 167) (Statements.plain (Plain.return 169 (Some (AnyExpression.any
     (Expression.variable (mark (codes "r") 176)))) 177) Statements.none)))) 179))
@@ -311,7 +311,7 @@ fibonacci_row = (tree_of fibonacci_source 180, (located_tokens (program_tokens f
 abbrev one_page_source : grammar.Program
 one_page_source = grammar.Program.last (definition None true 0 (mark (codes "main") 4) 8 Parameters.none 9 11 (Statements.declare (record {
   int_at = 13;
-  declarators = (grammar.Items.last (grammar.Item.array (mark (codes "a") 17) 18 19 62 21));
+  items = (grammar.Items.last (grammar.Item.array (mark (codes "a") 17) 18 19 62 21));
 }) 22 (Statements.plain (Plain.return 24 (Some (AnyExpression.any
     (Expression.len 31 34 (mark (codes "a") 35) 36))) 37) Statements.none)) 39)
 
@@ -322,7 +322,7 @@ one_page_row = (tree_of one_page_source 40, (located_tokens (program_tokens one_
 abbrev two_pages_source : grammar.Program
 two_pages_source = grammar.Program.last (definition None true 0 (mark (codes "main") 4) 8 Parameters.none 9 11 (Statements.declare (record {
   int_at = 13;
-  declarators = (grammar.Items.last (grammar.Item.array (mark (codes "a") 17) 18 19 63 21));
+  items = (grammar.Items.last (grammar.Item.array (mark (codes "a") 17) 18 19 63 21));
 }) 22 (Statements.plain (Plain.return 24 (Some (AnyExpression.any
     (Expression.len 31 34 (mark (codes "a") 35) 36))) 37) Statements.none)) 39)
 
@@ -336,7 +336,7 @@ passed_source = grammar.Program.before (definition None true 0 (mark (codes "f")
     (Expression.variable (mark (codes "n") 31)))) 32) Statements.none) 34) (grammar.Program.last (definition None true 36 (mark (codes "main") 40) 44
     Parameters.none 45 47 (Statements.declare (record {
       int_at = 49;
-      declarators = (grammar.Items.before (grammar.Item.array (mark (codes "a") 53) 54 55 1
+      items = (grammar.Items.before (grammar.Item.array (mark (codes "a") 53) 54 55 1
           56) 57 (grammar.Items.last (grammar.Item.scalar (mark (codes "x") 59))));
     }) 60 (Statements.plain (Plain.simple (Simple.assign (grammar.Target.element (mark
     (codes "a") 62) 63 (AnyExpression.any (Expression.literal 64 0)) 65) 67 (AnyExpression.any (Expression.joined op.Add refl (Expression.literal 69 1) (omega arith) 71
@@ -376,10 +376,10 @@ split_outer_row = (
 abbrev loop_name_source : grammar.Program
 loop_name_source = grammar.Program.last (definition None true 0 (mark (codes "main") 4) 8 Parameters.none 9 11 (Statements.declare (record {
   int_at = 13;
-  declarators = (grammar.Items.last (grammar.Item.scalar (mark (codes "i") 17)));
+  items = (grammar.Items.last (grammar.Item.scalar (mark (codes "i") 17)));
 }) 18 (Statements.plain (Plain.for 20 24 (FirstPart.declare (record {
   int_at = 25;
-  declarators = (grammar.Items.last (grammar.Item.set (mark (codes "i") 29) 31 (AnyExpression.any (Expression.literal 33 0))));
+  items = (grammar.Items.last (grammar.Item.set (mark (codes "i") 29) 31 (AnyExpression.any (Expression.literal 33 0))));
 })) 34 (Some (AnyExpression.any
     (Expression.joined op.Lt refl (Expression.variable (mark (codes "i") 36)) (omega arith) 38 (Expression.literal 40 3) (omega arith)))) 41 None 43
     (Plain.empty 45)) (Statements.plain (Plain.return 47 (Some (AnyExpression.any (Expression.variable (mark (codes "i") 54)))) 55) Statements.none))) 57)
@@ -427,7 +427,7 @@ sound_spawn_source = grammar.Program.before (definition (Some 0) true 5 (mark (c
     (codes "a") 15) 16 17))) 18 20 (Statements.plain (Plain.return 22 (Some (AnyExpression.any (Expression.len 29 32 (mark (codes "a") 33) 34))) 35)
     Statements.none) 37) (grammar.Program.last (definition (Some 39) true 44 (mark (codes "main") 48) 52 Parameters.none 53 55 (Statements.declare (record {
       int_at = 57;
-      declarators = (grammar.Items.before (grammar.Item.scalar (mark (codes "x") 61)) 62 (grammar.Items.last (grammar.Item.array (mark (codes "b")
+      items = (grammar.Items.before (grammar.Item.scalar (mark (codes "x") 61)) 62 (grammar.Items.last (grammar.Item.array (mark (codes "b")
           64) 65 66 3 67)));
     }) 68 (Statements.plain (Plain.spawn_into (mark (codes "x") 70) 72 74 (grammar.Call.with_ (mark (codes "g") 80) 81 (Arguments.last
     (Argument.value (Expression.variable (mark (codes "b") 82)))) 83) 84) (Statements.plain (Plain.sync 86 90) (Statements.plain (Plain.return 92
@@ -442,5 +442,51 @@ sound_spawn_row = (
   tree_of sound_spawn_source 103,
   sound_spawn_tree,
   (codes "cilk int g(int a[]) { return len(a); } cilk int main() { int x, b[3]; x = spawn g(b); sync; return x; }", sound_spawn_tree, no_refusal (codes "cilk int g(int a[]) { return len(a); } cilk int main() { int x, b[3]; x = spawn g(b); sync; return x; }") (located_tokens (program_tokens sound_spawn_source)) (tokens_of (codes "cilk int g(int a[]) { return len(a); } cilk int main() { int x, b[3]; x = spawn g(b); sync; return x; }")) (sound_spawn_source, refl) (omega arith) refl (omega arith)),
+  refl,
+)
+
+-- ---- numbers
+
+-- a function may be called before it stands
+abbrev called_before_source : grammar.Program
+called_before_source = grammar.Program.before (definition None true 0 (mark (codes "main") 4) 8 Parameters.none 9 11 (Statements.plain (Plain.return 13 (Some (AnyExpression.any (Expression.called (grammar.Call.with_ (mark (codes "f") 20) 21 (Arguments.last (Argument.value (Expression.literal 22 1))) 23)))) 24) Statements.none) 26) (grammar.Program.last (definition None true 28 (mark (codes "f") 32) 33 (Parameters.list (ParameterList.last (Parameter.scalar 34 (mark (codes "n") 38)))) 39 41 (Statements.plain (Plain.return 43 (Some (AnyExpression.any (Expression.variable (mark (codes "n") 50)))) 51) Statements.none) 53))
+
+pub called_before_row : HasNumbers (codes "int main() { return f(1); } int f(int n) { return n; }") 0 ((1 ∷ []) ∷ (0 ∷ []) ∷ [])
+unfolding digits Rattle.cm_syntax.specs.declared.expr.Arg.TheBlock.shape-the_row-Expr-0 Rattle.cm_syntax.specs.declared.expr.Arg.TheBlock.hidden-the_row-Expr-0 Rattle.cm_syntax.specs.declared.expr.Arg.TheBlock.shape-the_row-Arg-1 Rattle.cm_syntax.specs.declared.expr.Arg.TheBlock.hidden-the_row-Arg-1 Rattle.cm_syntax.specs.declared.stmt.Stmt.TheBlock.shape-the_row-Stmt-0 Rattle.cm_syntax.specs.declared.stmt.Stmt.TheBlock.hidden-the_row-Stmt-0 Rattle.cm_syntax.specs.declared.stmt.Stmt.TheBlock.shape-the_row-Stmt-1 Rattle.cm_syntax.specs.declared.stmt.Stmt.TheBlock.hidden-the_row-Stmt-1 denote.Hole.Carrier.hidden
+called_before_row = (tree_of called_before_source 54, (located_tokens (program_tokens called_before_source), tokens_of (codes "int main() { return f(1); } int f(int n) { return n; }"), (called_before_source, refl, refl), refl), refl, refl)
+
+-- the parts of a split have the slots behind those before it, the left one first
+abbrev split_numbers_source : grammar.Program
+split_numbers_source = grammar.Program.last (definition None true 0 (mark (codes "main") 4) 8 Parameters.none 9 11 (Statements.declare (record { int_at = 13; items = (grammar.Items.before (grammar.Item.array (mark (codes "a") 17) 18 19 3 20) 21 (grammar.Items.last (grammar.Item.scalar (mark (codes "n") 23)))) }) 24 (Statements.plain (Plain.split 26 (mark (codes "a") 32) 34 (AnyExpression.any (Expression.literal 37 2)) 39 (mark (codes "l") 42) 43 (mark (codes "r") 45) 47 (Statements.plain (Plain.simple (Simple.assign (grammar.Target.scalar (mark (codes "n") 49)) 51 (AnyExpression.any (Expression.len 53 56 (mark (codes "l") 57) 58))) 59) (Statements.plain (Plain.return 61 (Some (AnyExpression.any (Expression.joined op.Add refl (Expression.element (mark (codes "r") 68) 69 (Expression.literal 70 0) 71) (omega arith) 73 (Expression.variable (mark (codes "n") 75)) (omega arith)))) 76) Statements.none)) 78) (Statements.plain (Plain.return 80 (Some (AnyExpression.any (Expression.element (mark (codes "a") 87) 88 (Expression.literal 89 0) 90))) 91) Statements.none))) 93)
+
+pub split_numbers_row : HasNumbers (codes "int main() { int a[3], n; split a at 2 as l, r { n = len(l); return r[0] + n; } return a[0]; }") 0 ((0 ∷ 1 ∷ 2 ∷ 3 ∷ 1 ∷ 0 ∷ []) ∷ [])
+unfolding digits Rattle.cm_syntax.specs.declared.expr.Arg.TheBlock.shape-the_row-Expr-0 Rattle.cm_syntax.specs.declared.expr.Arg.TheBlock.hidden-the_row-Expr-0 Rattle.cm_syntax.specs.declared.expr.Arg.TheBlock.shape-the_row-Arg-1 Rattle.cm_syntax.specs.declared.expr.Arg.TheBlock.hidden-the_row-Arg-1 Rattle.cm_syntax.specs.declared.stmt.Stmt.TheBlock.shape-the_row-Stmt-0 Rattle.cm_syntax.specs.declared.stmt.Stmt.TheBlock.hidden-the_row-Stmt-0 Rattle.cm_syntax.specs.declared.stmt.Stmt.TheBlock.shape-the_row-Stmt-1 Rattle.cm_syntax.specs.declared.stmt.Stmt.TheBlock.hidden-the_row-Stmt-1 denote.Hole.Carrier.hidden
+split_numbers_row = (tree_of split_numbers_source 94, (located_tokens (program_tokens split_numbers_source), tokens_of (codes "int main() { int a[3], n; split a at 2 as l, r { n = len(l); return r[0] + n; } return a[0]; }"), (split_numbers_source, refl, refl), refl), refl, refl)
+
+-- the names of a `for` come before those of its body, and `main` may stand last
+abbrev loop_numbers_source : grammar.Program
+loop_numbers_source = grammar.Program.before (definition None true 0 (mark (codes "f") 4) 5 (Parameters.list (ParameterList.last (Parameter.scalar 6 (mark (codes "n") 10)))) 11 13 (Statements.declare (record { int_at = 15; items = (grammar.Items.last (grammar.Item.scalar (mark (codes "s") 19))) }) 20 (Statements.plain (Plain.for 22 26 (FirstPart.declare (record { int_at = 27; items = (grammar.Items.last (grammar.Item.set (mark (codes "i") 31) 33 (AnyExpression.any (Expression.literal 35 0)))) })) 36 (Some (AnyExpression.any (Expression.joined op.Lt refl (Expression.variable (mark (codes "i") 38)) (omega arith) 40 (Expression.variable (mark (codes "n") 42)) (omega arith)))) 43 (Some (Simple.step_after (grammar.Target.scalar (mark (codes "i") 45)) true 46)) 48 (Plain.block 50 (Statements.declare (record { int_at = 52; items = (grammar.Items.last (grammar.Item.scalar (mark (codes "j") 56))) }) 57 (Statements.plain (Plain.simple (Simple.assign (grammar.Target.scalar (mark (codes "j") 59)) 61 (AnyExpression.any (Expression.variable (mark (codes "i") 63)))) 64) (Statements.plain (Plain.simple (Simple.update (grammar.Target.scalar (mark (codes "s") 66)) op.Add refl 68 (AnyExpression.any (Expression.variable (mark (codes "j") 71)))) 72) Statements.none))) 74)) (Statements.plain (Plain.return 76 (Some (AnyExpression.any (Expression.variable (mark (codes "s") 83)))) 84) Statements.none))) 86) (grammar.Program.last (definition None true 88 (mark (codes "main") 92) 96 Parameters.none 97 99 (Statements.plain (Plain.return 101 (Some (AnyExpression.any (Expression.called (grammar.Call.with_ (mark (codes "f") 108) 109 (Arguments.last (Argument.value (Expression.literal 110 3))) 111)))) 112) Statements.none) 114))
+
+pub loop_numbers_row : HasNumbers (codes "int f(int n) { int s; for (int i = 0; i < n; i++) { int j; j = i; s += j; } return s; } int main() { return f(3); }") 1 ((2 ∷ 0 ∷ 2 ∷ 3 ∷ 2 ∷ 1 ∷ 3 ∷ 1 ∷ []) ∷ (0 ∷ []) ∷ [])
+unfolding digits Rattle.cm_syntax.specs.declared.expr.Arg.TheBlock.shape-the_row-Expr-0 Rattle.cm_syntax.specs.declared.expr.Arg.TheBlock.hidden-the_row-Expr-0 Rattle.cm_syntax.specs.declared.expr.Arg.TheBlock.shape-the_row-Arg-1 Rattle.cm_syntax.specs.declared.expr.Arg.TheBlock.hidden-the_row-Arg-1 Rattle.cm_syntax.specs.declared.stmt.Stmt.TheBlock.shape-the_row-Stmt-0 Rattle.cm_syntax.specs.declared.stmt.Stmt.TheBlock.hidden-the_row-Stmt-0 Rattle.cm_syntax.specs.declared.stmt.Stmt.TheBlock.shape-the_row-Stmt-1 Rattle.cm_syntax.specs.declared.stmt.Stmt.TheBlock.hidden-the_row-Stmt-1 denote.Hole.Carrier.hidden
+loop_numbers_row = (tree_of loop_numbers_source 115, (located_tokens (program_tokens loop_numbers_source), tokens_of (codes "int f(int n) { int s; for (int i = 0; i < n; i++) { int j; j = i; s += j; } return s; } int main() { return f(3); }"), (loop_numbers_source, refl, refl), refl), refl, refl)
+
+-- eight words of parameters are within the limit
+abbrev eight_words_source : grammar.Program
+eight_words_source = grammar.Program.before (definition None true 0 (mark (codes "f") 4) 5 (Parameters.list (ParameterList.before (Parameter.slice 6 (mark (codes "a") 10) 11 12) 13 (ParameterList.before (Parameter.slice 15 (mark (codes "b") 19) 20 21) 22 (ParameterList.before (Parameter.slice 24 (mark (codes "c") 28) 29 30) 31 (ParameterList.last (Parameter.slice 33 (mark (codes "d") 37) 38 39)))))) 40 42 (Statements.plain (Plain.return 44 (Some (AnyExpression.any (Expression.literal 51 0))) 52) Statements.none) 54) (grammar.Program.last (definition None true 56 (mark (codes "main") 60) 64 Parameters.none 65 67 (Statements.plain (Plain.return 69 (Some (AnyExpression.any (Expression.literal 76 0))) 77) Statements.none) 79))
+
+pub eight_words_row : HasFaults (codes "int f(int a[], int b[], int c[], int d[]) { return 0; } int main() { return 0; }") []
+unfolding digits Rattle.cm_syntax.specs.declared.expr.Arg.TheBlock.shape-the_row-Expr-0 Rattle.cm_syntax.specs.declared.expr.Arg.TheBlock.hidden-the_row-Expr-0 Rattle.cm_syntax.specs.declared.expr.Arg.TheBlock.shape-the_row-Arg-1 Rattle.cm_syntax.specs.declared.expr.Arg.TheBlock.hidden-the_row-Arg-1 Rattle.cm_syntax.specs.declared.stmt.Stmt.TheBlock.shape-the_row-Stmt-0 Rattle.cm_syntax.specs.declared.stmt.Stmt.TheBlock.hidden-the_row-Stmt-0 Rattle.cm_syntax.specs.declared.stmt.Stmt.TheBlock.shape-the_row-Stmt-1 Rattle.cm_syntax.specs.declared.stmt.Stmt.TheBlock.hidden-the_row-Stmt-1 denote.Hole.Carrier.hidden
+eight_words_row = (tree_of eight_words_source 80, (located_tokens (program_tokens eight_words_source), tokens_of (codes "int f(int a[], int b[], int c[], int d[]) { return 0; } int main() { return 0; }"), (eight_words_source, refl, refl), refl), refl)
+
+-- each sign of an update has its operator
+abbrev updates_source : grammar.Program
+updates_source = grammar.Program.last (definition None true 0 (mark (codes "main") 4) 8 Parameters.none 9 11 (Statements.declare (record { int_at = 13; items = (grammar.Items.last (grammar.Item.scalar (mark (codes "x") 17))) }) 18 (Statements.plain (Plain.simple (Simple.update (grammar.Target.scalar (mark (codes "x") 20)) op.Add refl 22 (AnyExpression.any (Expression.literal 25 1))) 26) (Statements.plain (Plain.simple (Simple.update (grammar.Target.scalar (mark (codes "x") 28)) op.Sub refl 30 (AnyExpression.any (Expression.literal 33 2))) 34) (Statements.plain (Plain.simple (Simple.update (grammar.Target.scalar (mark (codes "x") 36)) op.Mul refl 38 (AnyExpression.any (Expression.literal 41 3))) 42) (Statements.plain (Plain.simple (Simple.update (grammar.Target.scalar (mark (codes "x") 44)) op.Div refl 46 (AnyExpression.any (Expression.literal 49 4))) 50) (Statements.plain (Plain.simple (Simple.update (grammar.Target.scalar (mark (codes "x") 52)) op.Rem refl 54 (AnyExpression.any (Expression.literal 57 5))) 58) (Statements.plain (Plain.simple (Simple.update (grammar.Target.scalar (mark (codes "x") 60)) op.Shl refl 62 (AnyExpression.any (Expression.literal 66 6))) 67) (Statements.plain (Plain.simple (Simple.update (grammar.Target.scalar (mark (codes "x") 69)) op.Shr refl 71 (AnyExpression.any (Expression.literal 75 7))) 76) (Statements.plain (Plain.simple (Simple.update (grammar.Target.scalar (mark (codes "x") 78)) op.And refl 80 (AnyExpression.any (Expression.literal 83 8))) 84) (Statements.plain (Plain.simple (Simple.update (grammar.Target.scalar (mark (codes "x") 86)) op.Xor refl 88 (AnyExpression.any (Expression.literal 91 9))) 92) (Statements.plain (Plain.simple (Simple.update (grammar.Target.scalar (mark (codes "x") 94)) op.Or refl 96 (AnyExpression.any (Expression.literal 99 10))) 101) (Statements.plain (Plain.return 103 (Some (AnyExpression.any (Expression.variable (mark (codes "x") 110)))) 111) Statements.none)))))))))))) 113)
+
+pub updates_row : UpdatesBy (codes "int main() { int x; x += 1; x -= 2; x *= 3; x /= 4; x %= 5; x <<= 6; x >>= 7; x &= 8; x ^= 9; x |= 10; return x; }") (op.Add ∷ op.Sub ∷ op.Mul ∷ op.Div ∷ op.Rem ∷ op.Shl ∷ op.Shr ∷ op.And ∷ op.Xor ∷ op.Or ∷ [])
+unfolding digits Rattle.cm_syntax.specs.declared.expr.Arg.TheBlock.shape-the_row-Expr-0 Rattle.cm_syntax.specs.declared.expr.Arg.TheBlock.hidden-the_row-Expr-0 Rattle.cm_syntax.specs.declared.expr.Arg.TheBlock.shape-the_row-Arg-1 Rattle.cm_syntax.specs.declared.expr.Arg.TheBlock.hidden-the_row-Arg-1 Rattle.cm_syntax.specs.declared.stmt.Stmt.TheBlock.shape-the_row-Stmt-0 Rattle.cm_syntax.specs.declared.stmt.Stmt.TheBlock.hidden-the_row-Stmt-0 Rattle.cm_syntax.specs.declared.stmt.Stmt.TheBlock.shape-the_row-Stmt-1 Rattle.cm_syntax.specs.declared.stmt.Stmt.TheBlock.hidden-the_row-Stmt-1 denote.Hole.Carrier.hidden
+updates_row = (
+  definition_of_last updates_source,
+  (tree_of updates_source 114, (located_tokens (program_tokens updates_source), tokens_of (codes "int main() { int x; x += 1; x -= 2; x *= 3; x /= 4; x %= 5; x <<= 6; x >>= 7; x &= 8; x ^= 9; x |= 10; return x; }"), (updates_source, refl, refl), refl), refl),
   refl,
 )

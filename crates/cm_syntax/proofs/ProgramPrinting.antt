@@ -34,11 +34,11 @@ record PrintedDeclaration (at : ℕ) (items : List (Item Name)) : Type 0 where
   lays : (first : Quantity) → Lays at (declaration_tokens first parse) (word_token keyword.Int ∷ items_text items)
   same : bare_statement (lower_declaration parse) ≡ bare_statement (statement.Declare items)
 
-print_declaration : (first : Quantity) (d : Declaration) → AreWritable (declaration_tokens first d) → (at : ℕ) → PrintedDeclaration at (lower_items d.declarators)
+print_declaration : (first : Quantity) (d : Declaration) → AreWritable (declaration_tokens first d) → (at : ℕ) → PrintedDeclaration at (lower_items d.items)
 print_declaration first d w at =
-    let printed = print_items d.declarators w.1 (behind at (Token.keyword keyword.Int)) in
+    let printed = print_items d.items w.1 (behind at (Token.keyword keyword.Int)) in
     record {
-      parse = record { int_at = at; declarators = printed.parse };
+      parse = record { int_at = at; items = printed.parse };
       lays = λ first. one (Token.keyword keyword.Int) tt printed.lays;
       same = ap statement.Declare printed.same;
     }
@@ -255,7 +255,7 @@ mutual
   print_body : (d : ℕ) (p : Statements) → AreWritable (statements_tokens d p) → (at : ℕ) → PrintedBody at (lower_statements p)
   print_body d Statements.none w at = record { parse = Statements.none; lays = λ d. none; same = refl }
   print_body d (Statements.declare declaration _ more) w at =
-      let items = lower_items declaration.declarators in
+      let items = lower_items declaration.items in
       let text = word_token keyword.Int ∷ items_text items in
       let printed = print_declaration (Quantity.depth d) declaration (front_writable (declaration_tokens (Quantity.depth d) declaration) _ w) at in
       let behind_first = back_writable (declaration_tokens (Quantity.depth d) declaration) _ w in

@@ -110,7 +110,7 @@ declarators_known (grammar.Items.last one) = declarator_known one
 declarators_known (grammar.Items.before one comma more) = both (item_tokens one) _ (declarator_known one) (declarators_known more)
 
 declaration_known : (first : Quantity) (d : Declaration) → Known (declaration_tokens first d)
-declaration_known first d = declarators_known d.declarators
+declaration_known first d = declarators_known d.items
 
 written_known : (first : Quantity) (w : grammar.Target) → Known (target_tokens first w)
 written_known first (grammar.Target.scalar x) = refl

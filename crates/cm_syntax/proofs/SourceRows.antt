@@ -58,7 +58,7 @@ definition_of_last (grammar.Program.before f more) = definition_of_last more
 
 -- ---- canonical texts
 
-abbrev pointer_source : grammar.Program
+abbrev pub pointer_source : grammar.Program
 pointer_source = grammar.Program.last (definition None true 0 (mark (codes "f") 4) 5 (Parameters.list (ParameterList.last (Parameter.pointer 6 10 (mark (codes
     "p") 11)))) 12 13 (Statements.plain (Plain.simple (Simple.step_after (grammar.Target.element (mark (codes "p") 14) 15 (AnyExpression.any (Expression.literal 16 0))
     17) true 18) 20) (Statements.plain (Plain.return 21 (Some (AnyExpression.any (Expression.pointee 28 (mark (codes "p") 29)))) 30) Statements.none)) 31)
@@ -68,7 +68,7 @@ unfolding digits Rattle.cm_syntax.specs.declared.expr.Arg.TheBlock.shape-the_row
 pointer_row =
     (tree_of pointer_source 32, (located_tokens (program_tokens pointer_source), tokens_of (codes "int f(int *p){p[0]++;return *p;}"), (pointer_source, refl, refl), refl), refl)
 
-abbrev grouped_source : grammar.Program
+abbrev pub grouped_source : grammar.Program
 grouped_source = grammar.Program.last (definition None true 0 (mark (codes "main") 4) 8 (Parameters.void 9) 13 15 (Statements.plain (Plain.return 17 (Some
     (AnyExpression.any (Expression.joined op.Sub refl (Expression.joined op.Sub refl (Expression.joined op.Mul refl (Expression.grouped 24 (Expression.joined
     op.Add refl (Expression.literal 25 1) (omega arith) 27 (Expression.literal 29 2) (omega arith)) 30) (omega arith) 32 (Expression.literal 34 3)
@@ -81,10 +81,10 @@ unfolding digits Rattle.cm_syntax.specs.declared.expr.Arg.TheBlock.shape-the_row
 grouped_row =
     (tree_of grouped_source 60, (located_tokens (program_tokens grouped_source), tokens_of (codes "int main(void) { return (1 + 2) * 3 - ((4 * 5)) - (6 - 7); }"), (grouped_source, refl, refl), refl), refl)
 
-abbrev loop_source : grammar.Program
+abbrev pub loop_source : grammar.Program
 loop_source = grammar.Program.last (definition None true 0 (mark (codes "main") 4) 8 Parameters.none 9 11 (Statements.declare (record {
   int_at = 13;
-  declarators = (grammar.Items.last (grammar.Item.scalar (mark (codes "i") 17)));
+  items = (grammar.Items.last (grammar.Item.scalar (mark (codes "i") 17)));
 }) 18 (Statements.plain (Plain.for 20 24 (FirstPart.simple (Simple.assign
     (grammar.Target.scalar (mark (codes "i") 25)) 27 (AnyExpression.any (Expression.literal 29 0)))) 30 None 32 (Some (Simple.step_before false 34 (grammar.Target.scalar
     (mark (codes "i") 36)))) 37 (Plain.block 39 (Statements.plain (Plain.while 41 47 (AnyExpression.any (Expression.joined op.Lt refl (Expression.prefixed
@@ -97,12 +97,12 @@ unfolding digits Rattle.cm_syntax.specs.declared.expr.Arg.TheBlock.shape-the_row
 loop_row =
     (tree_of loop_source 72, (located_tokens (program_tokens loop_source), tokens_of (codes "int main() { int i; for (i = 0; ; --i) { while (-i < !2) ; } return i; }"), (loop_source, refl, refl), refl), refl)
 
-abbrev spawned_source : grammar.Program
+abbrev pub spawned_source : grammar.Program
 spawned_source = grammar.Program.before (definition (Some 0) true 5 (mark (codes "g") 9) 10 (Parameters.list (ParameterList.last (Parameter.slice 11 (mark (codes
     "a") 15) 16 17))) 18 20 (Statements.plain (Plain.return 22 (Some (AnyExpression.any (Expression.len 29 32 (mark (codes "a") 33) 34))) 35) Statements.none)
     37) (grammar.Program.last (definition (Some 39) true 44 (mark (codes "main") 48) 52 Parameters.none 53 55 (Statements.declare (record {
       int_at = 57;
-      declarators = (grammar.Items.before (grammar.Item.scalar (mark (codes "x") 61)) 62 (grammar.Items.last (grammar.Item.array (mark (codes "b") 64) 65 66 3
+      items = (grammar.Items.before (grammar.Item.scalar (mark (codes "x") 61)) 62 (grammar.Items.last (grammar.Item.array (mark (codes "b") 64) 65 66 3
           67)));
     }) 68 (Statements.plain (Plain.spawn_into (mark (codes "x") 70) 72 74 (grammar.Call.with_ (mark (codes "g") 80) 81 (Arguments.last
     (Argument.value (Expression.variable (mark (codes "b") 82)))) 83) 84) (Statements.plain (Plain.sync 86 90) (Statements.plain (Plain.return 92
@@ -113,7 +113,7 @@ unfolding digits Rattle.cm_syntax.specs.declared.expr.Arg.TheBlock.shape-the_row
 spawned_row =
     (tree_of spawned_source 103, (located_tokens (program_tokens spawned_source), tokens_of (codes "cilk int g(int a[]) { return len(a); } cilk int main() { int x, b[3]; x = spawn g(b); sync; return x; }"), (spawned_source, refl, refl), refl), refl)
 
-abbrev constructs_source : grammar.Program
+abbrev pub constructs_source : grammar.Program
 constructs_source = grammar.Program.last (definition None false 0 (mark (codes "f") 5) 6 (Parameters.list (ParameterList.before (Parameter.slice 7 (mark (codes
     "a") 11) 12 13) 14 (ParameterList.last (Parameter.scalar 15 (mark (codes "n") 19))))) 20 21 (Statements.plain (Plain.if_else 22 24 (AnyExpression.any
     (Expression.variable (mark (codes "n") 25))) 26 (Plain.simple (Simple.call (grammar.Call.with_ (mark (codes "f") 27) 28 (Arguments.before
@@ -125,7 +125,7 @@ constructs_source = grammar.Program.last (definition None false 0 (mark (codes "
     (Plain.print 88 93 (AnyExpression.any (Expression.inputs 94 100 101)) 102 103) Statements.none) 104) (Statements.plain (Plain.for 105 108 (FirstPart.declare
     (record {
       int_at = 109;
-      declarators = (grammar.Items.before (grammar.Item.set (mark (codes "k") 113) 114 (AnyExpression.any (Expression.literal 115 0))) 116
+      items = (grammar.Items.before (grammar.Item.set (mark (codes "k") 113) 114 (AnyExpression.any (Expression.literal 115 0))) 116
           (grammar.Items.last (grammar.Item.array (mark (codes "m") 117) 118 119 2 120)));
     })) 121 (Some (AnyExpression.any (Expression.joined op.Lt refl
     (Expression.variable (mark (codes "k") 122)) (omega arith) 123 (Expression.len 124 127 (mark (codes "a") 128) 129) (omega arith)))) 130 (Some
@@ -279,7 +279,7 @@ literal_row = answer_of_size (codes "int main() { return 2147483648; }") 20 (rec
 abbrev no_words_source : grammar.Program
 no_words_source = grammar.Program.last (definition None true 0 (mark (codes "main") 4) 8 Parameters.none 9 11 (Statements.declare (record {
   int_at = 13;
-  declarators = (grammar.Items.last (grammar.Item.array (mark (codes "a") 17) 18 19 0 20));
+  items = (grammar.Items.last (grammar.Item.array (mark (codes "a") 17) 18 19 0 20));
 }) 21 Statements.none) 23)
 
 pub no_words_row : IsAnswer (codes "int main() { int a[0]") Refusal.size 19
@@ -298,7 +298,7 @@ no_words_row = answer_of_size (codes "int main() { int a[0]") 19 (record {
 abbrev many_words_source : grammar.Program
 many_words_source = grammar.Program.last (definition None true 0 (mark (codes "main") 4) 8 Parameters.none 9 11 (Statements.declare (record {
   int_at = 13;
-  declarators = (grammar.Items.last (grammar.Item.array (mark (codes "a") 17) 18 19 16385 24));
+  items = (grammar.Items.last (grammar.Item.array (mark (codes "a") 17) 18 19 16385 24));
 }) 25 Statements.none) 27)
 
 pub many_words_row : IsAnswer (codes "int main() { int a[16385]") Refusal.size 19
@@ -323,7 +323,7 @@ abbrev parentheses : (n : ℕ) → (at : Offset) → Expression 12
 parentheses zero at = Expression.literal 0 0
 parentheses (suc n) at = Expression.grouped at (parentheses n (at + 1)) 0
 
-abbrev parentheses_source : grammar.Program
+abbrev pub parentheses_source : grammar.Program
 parentheses_source = returning (AnyExpression.any (parentheses 65 20))
 
 pub parentheses_row : Size (codes "int main() { return " ++ replicate 65 40) 84
@@ -404,7 +404,7 @@ faulty_row = tokens_of (codes "x # y")
 
 -- ---- an `else` belongs to the nearest `if` that has none
 
-abbrev else_source : grammar.Program
+abbrev pub else_source : grammar.Program
 else_source = grammar.Program.last (definition None true 0 (mark (codes "main") 4) 8 Parameters.none 9 11 (Statements.plain (Plain.if_alone 13 16 (AnyExpression.any
     (Expression.literal 17 1)) 18 (Plain.if_else 20 23 (AnyExpression.any (Expression.literal 24 2)) 25 (Plain.empty 27) 29 (Plain.empty 34))) Statements.none)
     36)

@@ -36,8 +36,8 @@ abbrev pub IsItem : List LocatedToken → Item Name → Type 0
 IsItem tokens tree = (parse : grammar.Item) × (located_tokens (item_tokens parse) ≡ tokens) × (lower_item parse ≡ tree)
 
 -- what follows the `int` of a declaration, up to its semicolon
-abbrev pub AreDeclarators : List LocatedToken → List (Item Name) → Type 0
-AreDeclarators tokens items = (parse : grammar.Items) × (located_tokens (items_tokens parse) ≡ tokens) × (lower_items parse ≡ items)
+abbrev pub AreItems : List LocatedToken → List (Item Name) → Type 0
+AreItems tokens items = (parse : grammar.Items) × (located_tokens (items_tokens parse) ≡ tokens) × (lower_items parse ≡ items)
 
 -- a declaration, without its semicolon
 abbrev pub IsDeclaration : List LocatedToken → Stmt Name → Type 0

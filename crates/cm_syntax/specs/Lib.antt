@@ -10,6 +10,7 @@ pub mod Yield
 pub mod Lowering
 pub mod Grammar
 pub mod Refusal
+pub mod Machine
 pub mod Canonical
 pub mod Offset
 pub mod Resolution

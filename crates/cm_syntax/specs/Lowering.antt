@@ -60,7 +60,7 @@ lower_items (grammar.Items.last one) = lower_item one ∷ []
 lower_items (grammar.Items.before one comma more) = lower_item one ∷ lower_items more
 
 abbrev pub lower_declaration : Declaration → Stmt Name
-lower_declaration d = statement.Declare (lower_items d.declarators)
+lower_declaration d = statement.Declare (lower_items d.items)
 
 abbrev pub lower_target : grammar.Target → Target Name
 lower_target (grammar.Target.scalar x) = target.Scalar x

@@ -132,10 +132,10 @@ pub data Items : Type 0 where
   last : Item → Items
   before : Item → (comma : Offset) → Items → Items
 
--- `int` and its declarators, without the semicolon
+-- `int` and its items, without the semicolon
 pub record Declaration : Type 0 where
   pub int_at : Offset
-  pub declarators : Items
+  pub items : Items
 
 -- what an assignment writes
 pub data Target : Type 0 where

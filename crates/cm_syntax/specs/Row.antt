@@ -1,14 +1,20 @@
 -- What is said of single source texts, so that the definitions can be held against texts worked out by hand.
-use Rattle.std.specs.Prelude.{◌≡◌, ℕ, zero, suc, List, [], ◌∷◌, ◌++◌, map, codes}
+use Rattle.std.specs.Prelude.{◌≡◌, ℕ, pos, zero, suc, ◌+◌, List, [], ◌∷◌, ◌++◌, length, map, codes, Some}
+use Rattle.cm_syntax.specs.declared.expr.Expr.{Expr}
+use Rattle.cm_syntax.specs.declared.expr.Expr.TheVariants.{Number}
 use Rattle.cm_syntax.specs.declared.stmt.Function.{Function}
+use Rattle.cm_syntax.specs.declared.expr.Op.{Op}
 use Rattle.cm_syntax.specs.declared.stmt.Stmt.{Stmt}
+use Rattle.cm_syntax.specs.declared.stmt.Stmt.TheVariants as statement
 use Rattle.cm_syntax.specs.declared.stmt.Tree.{Tree}
 use Rattle.cm_syntax.specs.declared.name.Name.{Name}
+use Rattle.cm_syntax.specs.Token.{Token, LocatedToken, token_at, Tokens}
 use Rattle.cm_syntax.specs.Grammar.{IsSourceOf}
 use Rattle.cm_syntax.specs.Canonical.{canonical}
 use Rattle.cm_syntax.specs.Refusal.{IsSoundTree}
 use Rattle.cm_syntax.specs.Resolution.{Variable, ResolvesTo}
-use Rattle.cm_syntax.specs.Fault.{Fault, faults, frame_of}
+use Rattle.cm_syntax.specs.Number.{function_numbers}
+use Rattle.cm_syntax.specs.Fault.{Fault, faults, frame_of, program_of}
 
 -- the source has a tree of these functions
 abbrev pub HasFunctions : (source : List ℕ) → List (Function Name) → Type 0
@@ -42,3 +48,36 @@ IsSoundSource source = (tree : Tree) × IsSourceOf source tree × IsSoundTree tr
 abbrev pub loops : (n : ℕ) → List ℕ
 loops zero = codes ";"
 loops (suc n) = codes "while(1)" ++ loops n
+
+-- a literal
+abbrev pub literal : ℕ → Expr ℕ
+literal n = Number (pos n)
+
+-- texts, each with one space behind it, and the token that each of them is to be
+abbrev pub spaced_text : List (List ℕ × Token) → List ℕ
+spaced_text [] = []
+spaced_text (row ∷ rows) = row.0 ++ (32 ∷ spaced_text rows)
+
+abbrev pub spaced_tokens : (at : ℕ) → List (List ℕ × Token) → List LocatedToken
+spaced_tokens at [] = []
+spaced_tokens at (row ∷ rows) = token_at row.1 at ∷ spaced_tokens (at + length row.0 + 1) rows
+
+-- each of these texts is this token
+abbrev pub AreSpelled : List (List ℕ × Token) → Type 0
+AreSpelled rows = Tokens 0 (spaced_text rows) (spaced_tokens 0 rows)
+
+-- the source has a tree in whose program the function of this index is run, and whose functions mention these numbers,
+-- of variables and of functions, in the order of the text
+abbrev pub HasNumbers : (source : List ℕ) → (main : ℕ) → List (List ℕ) → Type 0
+HasNumbers source main numbers =
+    (tree : Tree) × IsSourceOf source tree × ((program_of tree).main ≡ main) × (map function_numbers (program_of tree).functions ≡ numbers)
+
+-- the operators of the updates among statements
+abbrev pub update_operators : List (Stmt Name) → List Op
+update_operators [] = []
+update_operators (statement.Assign written (Some op) value ∷ more) = op ∷ update_operators more
+update_operators (_ ∷ more) = update_operators more
+
+-- the source is one function, whose updates are by these operators
+abbrev pub UpdatesBy : (source : List ℕ) → List Op → Type 0
+UpdatesBy source ops = (f : Function Name) × HasFunctions source (f ∷ []) × (update_operators f.body ≡ ops)

@@ -144,7 +144,7 @@ items_tokens (grammar.Items.last one) = item_tokens one
 items_tokens (grammar.Items.before one comma more) = item_tokens one ++ (sign_at sign.Comma comma ∷ items_tokens more)
 
 abbrev pub declaration_tokens : Quantity → Declaration → List CountedToken
-declaration_tokens first d = counted_token (Token.keyword keyword.Int) d.int_at first ∷ items_tokens d.declarators
+declaration_tokens first d = counted_token (Token.keyword keyword.Int) d.int_at first ∷ items_tokens d.items
 
 abbrev pub target_tokens : Quantity → grammar.Target → List CountedToken
 target_tokens first (grammar.Target.scalar x) = counted_token (Token.name x.name) x.at first ∷ []

@@ -1,7 +1,7 @@
 //! Laws of the definitions, and single texts worked out by hand with which they have to agree. The functions do
 //! nothing: their contracts are the laws.
 
-ghost use Rattle.std.specs.Prelude.{◌≡◌, ◌≤◌, ◌<◌, ◌++◌, [], ◌∷◌, ℕ, List, Bool, pos, length, codes, map, replicate, slice_get, Some, None};
+ghost use Rattle.std.specs.Prelude.{◌≡◌, ◌≤◌, ◌<◌, ◌++◌, [], ◌∷◌, ℕ, List, Bool, pos, neg_ℤ, length, codes, map, replicate, slice_get, Some, None};
 ghost use Rattle.cm_syntax.specs.declared.name.Name.{Name};
 ghost use Rattle.cm_syntax.specs.declared.expr.Expr.{Expr};
 ghost use Rattle.cm_syntax.specs.declared.expr.Expr.TheVariants as expression;
@@ -16,7 +16,9 @@ ghost use Rattle.cm_syntax.specs.declared.stmt.Tree.{Tree};
 ghost use Rattle.cm_syntax.specs.declared.token.Keyword.TheVariants as keywords;
 ghost use Rattle.cm_syntax.specs.declared.token.Sign.TheVariants as signs;
 ghost use Rattle.cm_syntax.specs.Token.{Token, LocatedToken, token_at, Tokens};
-ghost use Rattle.cm_syntax.specs.Grammar.{IsExpression, IsPrimary, IsArgument, IsCall, IsItem, AreDeclarators, IsDeclaration, IsTarget, IsSimple, IsPlain, AreStatements, IsStatement, IsBlock, IsParameter, AreParameters, IsFunction, Parses, IsSourceOf};
+ghost use Rattle.cm_syntax.specs.ParseTree as grammar;
+ghost use Rattle.cm_syntax.specs.Yield.{CountedToken, program_tokens, located_tokens};
+ghost use Rattle.cm_syntax.specs.Grammar.{IsExpression, IsPrimary, IsArgument, IsCall, IsItem, AreItems, IsDeclaration, IsTarget, IsSimple, IsPlain, AreStatements, IsStatement, IsBlock, IsParameter, AreParameters, IsFunction, Parses, IsSourceOf};
 ghost use Rattle.cm_syntax.specs.Refusal.{Syntax, Size, Refusal, IsAnswer, IsSoundTree};
 ghost use Rattle.cm_syntax.specs.Canonical.{canonical};
 ghost use Rattle.cm_syntax.specs.Offset.{without_offsets};
@@ -26,7 +28,10 @@ ghost use Rattle.cm_syntax.specs.Resolution.{function_uses, resolve_function, Va
 ghost use Rattle.cm_syntax.specs.Frame as frame;
 ghost use Rattle.cm_syntax.specs.Fault.{Variant, fault_at, faults, frame_of, program_of, Faulty, IsNameAnswer, IsSoundFunction};
 ghost use Rattle.cm_syntax.specs.Limit.{max_frame_words, max_functions, max_source_bytes};
-ghost use Rattle.cm_syntax.specs.Row.{IsPrintedAs, HasBody, HasFaults, HasFrames, ResolvesToSlot, IsSoundSource, loops};
+ghost use Rattle.cm_syntax.specs.declared.expr.Op.TheVariants as operators;
+ghost use Rattle.cm_syntax.specs.Shape.{Joined};
+ghost use Rattle.cm_syntax.specs.Expr.{operator_count, value_of};
+ghost use Rattle.cm_syntax.specs.Row.{AreSpelled, literal, IsPrintedAs, HasBody, HasFaults, HasFrames, HasNumbers, UpdatesBy, ResolvesToSlot, IsSoundSource, loops};
 
 /// A text has exactly one list of tokens.
 pub fn one_token_list()
@@ -43,7 +48,7 @@ pub fn grammar_members()
     ensures argument { (tokens : List LocatedToken) × (tree : Arg Name) × IsArgument tokens tree }
     ensures call { (tokens : List LocatedToken) × (tree : Call Name) × IsCall tokens tree }
     ensures item { (tokens : List LocatedToken) × (tree : Item Name) × IsItem tokens tree }
-    ensures declarators { (tokens : List LocatedToken) × (items : List (Item Name)) × AreDeclarators tokens items }
+    ensures items { (tokens : List LocatedToken) × (items : List (Item Name)) × AreItems tokens items }
     ensures declaration { (tokens : List LocatedToken) × (tree : Stmt Name) × IsDeclaration tokens tree }
     ensures target { (tokens : List LocatedToken) × (tree : Target Name) × IsTarget tokens tree }
     ensures simple { (tokens : List LocatedToken) × (tree : Stmt Name) × IsSimple tokens tree }
@@ -62,6 +67,14 @@ pub fn one_tree()
     ensures tokens { (tokens : List LocatedToken) (x y : List (Function Name)) → Parses tokens x
         → Parses tokens y → x ≡ y }
     ensures source { (bytes : List ℕ) (x y : Tree) → IsSourceOf bytes x → IsSourceOf bytes y → x ≡ y }
+{}
+
+/// What is counted at a token against the limits depends on the tokens up to it alone: two programs whose tokens
+/// begin alike have the same counts there.
+pub fn one_count()
+    ensures { (a b : grammar.Program) (before others more rest : List CountedToken)
+        → program_tokens a ≡ before ++ more → program_tokens b ≡ others ++ rest
+        → located_tokens before ≡ located_tokens others → before ≡ others }
 {}
 
 /// Syntax is refused at one offset at most.
@@ -110,7 +123,7 @@ pub fn frames_of_sound_programs()
 {}
 
 /// The tokens of some texts: the longest token that fits stands, a comment doesn't nest, and a word that is set
-/// aside or a byte that begins no token fits nowhere.
+/// aside or a byte that begins no token fits nowhere. All signs, all words of the language and all that are set aside.
 pub fn tokens_of_texts()
     ensures longest { Tokens 0 (codes "a+++b<<=c//d")
         (token_at (Token.name (codes "a")) 0 ∷ token_at (Token.sign signs.PlusPlus) 1 ∷
@@ -125,6 +138,97 @@ pub fn tokens_of_texts()
         token_at (Token.number 10) 24 ∷ token_at Token.unfit 27 ∷ []) }
     ensures faulty { Tokens 0 (codes "x # y")
         (token_at (Token.name (codes "x")) 0 ∷ token_at Token.unfit 2 ∷ []) }
+    ensures all_signs { AreSpelled
+        ((codes "<<=", Token.sign signs.ShiftLeftAssign) ∷
+        (codes ">>=", Token.sign signs.ShiftRightAssign) ∷
+        (codes "<<", Token.sign signs.ShiftLeft) ∷
+        (codes ">>", Token.sign signs.ShiftRight) ∷
+        (codes "<=", Token.sign signs.LessEqual) ∷
+        (codes ">=", Token.sign signs.GreaterEqual) ∷
+        (codes "==", Token.sign signs.Equal) ∷
+        (codes "!=", Token.sign signs.NotEqual) ∷
+        (codes "&&", Token.sign signs.AndAnd) ∷
+        (codes "||", Token.sign signs.OrOr) ∷
+        (codes "+=", Token.sign signs.PlusAssign) ∷
+        (codes "-=", Token.sign signs.MinusAssign) ∷
+        (codes "*=", Token.sign signs.StarAssign) ∷
+        (codes "/=", Token.sign signs.SlashAssign) ∷
+        (codes "%=", Token.sign signs.PercentAssign) ∷
+        (codes "&=", Token.sign signs.AndAssign) ∷
+        (codes "^=", Token.sign signs.CaretAssign) ∷
+        (codes "|=", Token.sign signs.OrAssign) ∷
+        (codes "++", Token.sign signs.PlusPlus) ∷
+        (codes "--", Token.sign signs.MinusMinus) ∷
+        (codes "+", Token.sign signs.Plus) ∷
+        (codes "-", Token.sign signs.Minus) ∷
+        (codes "*", Token.sign signs.Star) ∷
+        (codes "/", Token.sign signs.Slash) ∷
+        (codes "%", Token.sign signs.Percent) ∷
+        (codes "<", Token.sign signs.Less) ∷
+        (codes ">", Token.sign signs.Greater) ∷
+        (codes "=", Token.sign signs.Assign) ∷
+        (codes "!", Token.sign signs.Exclamation) ∷
+        (codes "~", Token.sign signs.Tilde) ∷
+        (codes "&", Token.sign signs.Ampersand) ∷
+        (codes "^", Token.sign signs.Caret) ∷
+        (codes "|", Token.sign signs.Bar) ∷
+        (codes "(", Token.sign signs.ParenOpen) ∷
+        (codes ")", Token.sign signs.ParenClose) ∷
+        (codes "{", Token.sign signs.BraceOpen) ∷
+        (codes "}", Token.sign signs.BraceClose) ∷
+        (codes "[", Token.sign signs.BracketOpen) ∷
+        (codes "]", Token.sign signs.BracketClose) ∷
+        (codes ",", Token.sign signs.Comma) ∷
+        (codes ";", Token.sign signs.Semicolon) ∷ []) }
+    ensures all_words { AreSpelled
+        ((codes "int", Token.keyword keywords.Int) ∷
+        (codes "void", Token.keyword keywords.Void) ∷
+        (codes "cilk", Token.keyword keywords.Cilk) ∷
+        (codes "spawn", Token.keyword keywords.Spawn) ∷
+        (codes "sync", Token.keyword keywords.Sync) ∷
+        (codes "if", Token.keyword keywords.If) ∷
+        (codes "else", Token.keyword keywords.Else) ∷
+        (codes "while", Token.keyword keywords.While) ∷
+        (codes "for", Token.keyword keywords.For) ∷
+        (codes "return", Token.keyword keywords.Return) ∷
+        (codes "print", Token.keyword keywords.Print) ∷
+        (codes "input", Token.keyword keywords.Input) ∷
+        (codes "inputs", Token.keyword keywords.Inputs) ∷
+        (codes "len", Token.keyword keywords.Len) ∷
+        (codes "split", Token.keyword keywords.Split) ∷
+        (codes "at", Token.keyword keywords.At) ∷
+        (codes "as", Token.keyword keywords.As) ∷ []) }
+    ensures words_set_aside { AreSpelled
+        ((codes "const", Token.unfit) ∷
+        (codes "cilk_spawn", Token.unfit) ∷
+        (codes "cilk_sync", Token.unfit) ∷
+        (codes "cilk_for", Token.unfit) ∷
+        (codes "grain", Token.unfit) ∷
+        (codes "reducer", Token.unfit) ∷
+        (codes "foreign", Token.unfit) ∷
+        (codes "extern", Token.unfit) ∷
+        (codes "break", Token.unfit) ∷
+        (codes "continue", Token.unfit) ∷
+        (codes "do", Token.unfit) ∷
+        (codes "goto", Token.unfit) ∷
+        (codes "switch", Token.unfit) ∷
+        (codes "case", Token.unfit) ∷
+        (codes "default", Token.unfit) ∷
+        (codes "struct", Token.unfit) ∷
+        (codes "union", Token.unfit) ∷
+        (codes "enum", Token.unfit) ∷
+        (codes "typedef", Token.unfit) ∷
+        (codes "static", Token.unfit) ∷
+        (codes "char", Token.unfit) ∷
+        (codes "short", Token.unfit) ∷
+        (codes "long", Token.unfit) ∷
+        (codes "unsigned", Token.unfit) ∷
+        (codes "signed", Token.unfit) ∷
+        (codes "float", Token.unfit) ∷
+        (codes "double", Token.unfit) ∷
+        (codes "sizeof", Token.unfit) ∷
+        (codes "inlet", Token.unfit) ∷
+        (codes "abort", Token.unfit) ∷ []) }
 {}
 
 /// The trees of some sources, in whole or by their canonical texts: an `else` belongs to the nearest `if`, binary
@@ -147,6 +251,13 @@ pub fn trees_of_sources()
     ensures constructs { IsPrintedAs
         (codes "void f(int a[],int n){if(n)f(a,n-1);else if(!n);else{return;}split a at input(n) as l,r{print(inputs());}for(int k=0,m[2];k<len(a);k++)a[k+1]<<=*a;spawn f(&n,n);}")
         (codes "void f ( int a [ ] , int n ) { if ( n ) f ( a , n - 1 ) ; else if ( ! n ) ; else { return ; } split a at input ( n ) as l , r { print ( inputs ( ) ) ; } for ( int k = 0 , m [ 2 ] ; k < len ( a ) ; k += 1 ) a [ k + 1 ] <<= * a ; spawn f ( & n , n ) ; }") }
+{}
+
+/// Each sign of an update has its operator.
+pub fn updates_of_source()
+    ensures { UpdatesBy
+        (codes "int main() { int x; x += 1; x -= 2; x *= 3; x /= 4; x %= 5; x <<= 6; x >>= 7; x &= 8; x ^= 9; x |= 10; return x; }")
+        (operators.Add ∷ operators.Sub ∷ operators.Mul ∷ operators.Div ∷ operators.Rem ∷ operators.Shl ∷ operators.Shr ∷ operators.And ∷ operators.Xor ∷ operators.Or ∷ []) }
 {}
 
 /// Where some sources are refused, and why.
@@ -214,6 +325,8 @@ pub fn faulty_sources()
         (fault_at 4 Variant.kind ∷ []) }
     ensures many_words { HasFaults (codes "int f(int a[], int b[], int c[], int d[], int e) { return e; } int main() { return 0; }")
         (fault_at 4 Variant.count ∷ []) }
+    ensures eight_words { HasFaults (codes "int f(int a[], int b[], int c[], int d[]) { return 0; } int main() { return 0; }")
+        [] }
     ensures great_frame { HasFaults (codes "int main() { int a[16384], b[16384]; return 0; }")
         (fault_at 4 Variant.frame ∷ []) }
 {}
@@ -239,6 +352,20 @@ pub fn mentions_of_sources()
         (codes "int main() { int i; for (int i = 0; i < 3; ) ; return i; }") 2 0 }
 {}
 
+/// The numbers that the functions of some sources mention: a function may stand behind its caller, the parts of a split
+/// have slots in their order, the names of a `for` come before those of its body, and `main` needn't stand first.
+pub fn numbers_of_sources()
+    ensures called_before { HasNumbers
+        (codes "int main() { return f(1); } int f(int n) { return n; }")
+        0 ((1 ∷ []) ∷ (0 ∷ []) ∷ []) }
+    ensures split_numbers { HasNumbers
+        (codes "int main() { int a[3], n; split a at 2 as l, r { n = len(l); return r[0] + n; } return a[0]; }")
+        0 ((0 ∷ 1 ∷ 2 ∷ 3 ∷ 1 ∷ 0 ∷ []) ∷ []) }
+    ensures loop_numbers { HasNumbers
+        (codes "int f(int n) { int s; for (int i = 0; i < n; i++) { int j; j = i; s += j; } return s; } int main() { return f(3); }")
+        1 ((2 ∷ 0 ∷ 2 ∷ 3 ∷ 2 ∷ 1 ∷ 3 ∷ 1 ∷ []) ∷ (0 ∷ []) ∷ []) }
+{}
+
 /// The words of the frames of some sources' functions.
 pub fn frames_of_sources()
     ensures fibonacci { HasFrames (codes "cilk int fib(int n) { int x, y; if (n < 2) return n; x = spawn fib(n - 1); y = spawn fib(n - 2); sync; return x + y; } cilk int main() { int r; r = spawn fib(10); sync; return r; }")
@@ -254,4 +381,17 @@ pub fn sound_sources()
     ensures fourteen { IsSoundSource (codes "int main() { return 14; }") }
     ensures sound_spawn { IsSoundSource
         (codes "cilk int g(int a[]) { return len(a); } cilk int main() { int x, b[3]; x = spawn g(b); sync; return x; }") }
+{}
+
+/// The values of some expressions of literals, and how many temporaries they use: a sum and a product wrap, operators
+/// group to the left, and a right operand has one temporary more in use than a left one.
+pub fn values_of_expressions()
+    ensures sum_wraps { value_of (Joined operators.Add (literal 2147483647) (literal 1)) ≡ Some (neg_ℤ (pos 2147483648)) }
+    ensures product_wraps { value_of (Joined operators.Mul (literal 65536) (literal 65536)) ≡ Some (pos 0) }
+    ensures sum { value_of (Joined operators.Add (literal 2) (Joined operators.Mul (literal 3) (literal 4))) ≡ Some (pos 14) }
+    ensures difference { value_of (Joined operators.Sub (literal 2) (Joined operators.Mul (literal 3) (literal 4))) ≡ Some (neg_ℤ (pos 10)) }
+    ensures left { value_of (Joined operators.Sub (Joined operators.Sub (literal 1) (literal 2)) (literal 3)) ≡ Some (neg_ℤ (pos 4)) }
+    ensures right_temporaries { frame.temporaries (Joined operators.Add (literal 2) (Joined operators.Mul (literal 3) (literal 4))) 0 ≡ 2 }
+    ensures left_temporaries { frame.temporaries (Joined operators.Add (Joined operators.Mul (literal 2) (literal 3)) (literal 4)) 0 ≡ 1 }
+    ensures operators { operator_count (Joined operators.Add (literal 2) (Joined operators.Mul (literal 3) (literal 4))) ≡ 2 }
 {}

@@ -5,7 +5,7 @@ use Rattle.std.proofs.lemmas.Str.{IsUtf8-from_ascii}
 use Rattle.std.proofs.lemmas.Fmt.{IsAscii-from_digits}
 use Rattle.std.specs.Str.{IsAscii, IsUtf8}
 use Rattle.std.specs.Str.Parse.{IsNumeral}
-use Rattle.cm_text.specs.Numbers.{IsNumber}
+use Rattle.cm_text.specs.Numeral.{IsNumber}
 
 IsAscii-cons : (c : ℕ) (cs : List ℕ) → c < 128 → IsAscii cs → IsAscii (c ∷ cs)
 IsAscii-cons c cs first rest zero = first

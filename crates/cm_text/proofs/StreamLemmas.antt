@@ -10,14 +10,14 @@ pub left_split : (bytes into : List ℕ) (at count : ℕ) → take count into �
 left_split bytes into at count e =
     sym (take-append-drop count (drop at bytes)) ∙ ap (λ l. l ++ drop count (drop at bytes)) (sym e) ∙ ap (λ l. take count into ++ l) (drop-drop count at bytes)
 
--- the front up to one place and what stands behind it up to the next are the front up to that
+-- the front up to one offset and what follows it up to the next are the front up to that
 pub take-append-take : (bytes : List ℕ) (at count : ℕ) → take at bytes ++ take count (drop at bytes) ≡ take (at + count) bytes
 take-append-take bytes at count =
     ap (λ l. l ++ take count (drop at bytes)) (sym (take-take at (at + count) bytes (omega arith)))
     ∙ ap (λ l. take at (take (at + count) bytes) ++ l) (sym (drop-take at count bytes))
     ∙ take-append-drop at (take (at + count) bytes)
 
--- a sink that took the front up to one place, and then some more, took the front up to the next place
+-- a sink that took the front up to one offset, and then some more, took the front up to the next offset
 pub Appends-more : (a b c : Option (List ℕ)) (bytes : List ℕ) (at count : ℕ) → Appends a b (take at bytes) → Appends b c (take count (take (length bytes - at) (drop at bytes))) → Appends a c (take (at + count) bytes)
 Appends-more a b c bytes at count front more =
     let next = subst (λ l. Appends b c (take count l)) (take_rest bytes at) more in

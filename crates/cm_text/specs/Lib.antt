@@ -1,5 +1,5 @@
-pub mod Counts
-pub mod Numbers
+pub mod Count
+pub mod Numeral
 pub mod SinkState
 pub mod SourceState
 pub mod Transfer

@@ -1,6 +1,6 @@
 -- A sink over memory, and what each write does to it.
 use Rattle.std.specs.Prelude.{ℕ, ◌-◌, ◌++◌, ◌&&◌, ◌||◌, Bool, List, [], length, min, max, nat_lt, nat_le, if◌then◌else◌, take as front_of}
-use Rattle.cm_text.specs.Counts.{raised, is_next_among}
+use Rattle.cm_text.specs.Count.{next_count, is_next_among}
 
 -- the bytes that were taken, how many there is room for, the most that a write takes,
 -- the numbers of the writes that fail, how many writes were made, and how many of them failed
@@ -29,5 +29,5 @@ taken_count sink piece = min (min (max sink.most 1) (length piece)) (sink.room -
 abbrev pub after_write : SinkState → List ℕ → SinkState
 after_write sink piece =
     if is_write_failing sink piece
-    then record sink { calls = raised sink.calls; faults = raised sink.faults }
-    else record sink { taken = sink.taken ++ front_of (taken_count sink piece) piece; calls = raised sink.calls }
+    then record sink { calls = next_count sink.calls; faults = next_count sink.faults }
+    else record sink { taken = sink.taken ++ front_of (taken_count sink piece) piece; calls = next_count sink.calls }

@@ -1,6 +1,6 @@
 -- A source over bytes in memory, and what each read does to it.
 use Rattle.std.specs.Prelude.{ℕ, Bool, List, drop, length, min, max, if◌then◌else◌}
-use Rattle.cm_text.specs.Counts.{raised, is_next_among}
+use Rattle.cm_text.specs.Count.{next_count, is_next_among}
 
 -- the bytes that are left, the most that a read gives, the numbers of the reads that fail,
 -- how many reads were made, and how many of them failed
@@ -27,5 +27,5 @@ given_count source room = min (min (max source.give 1) room) (length source.left
 abbrev pub after_read : SourceState → ℕ → SourceState
 after_read source room =
     if is_read_failing source
-    then record source { calls = raised source.calls; faults = raised source.faults }
-    else record source { left = drop (given_count source room) source.left; calls = raised source.calls }
+    then record source { calls = next_count source.calls; faults = next_count source.faults }
+    else record source { left = drop (given_count source room) source.left; calls = next_count source.calls }

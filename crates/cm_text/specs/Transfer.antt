@@ -1,7 +1,7 @@
 -- Why reading to the end of input stopped, and what a broken write leaves.
 use Rattle.std.specs.Prelude.{ℕ, ◌≡◌, ◌<◌, ◌≤◌, List, length, take, Option, IfSome}
 use Rattle.std.specs.Io.KnownBytes.{Appends, Consumes}
-use Rattle.cm_text.specs.Counts.{Rose}
+use Rattle.cm_text.specs.Count.{Rose}
 use Rattle.cm_text.specs.declared.transfer.ReadEnd.{ReadEnd}
 use Rattle.cm_text.specs.declared.transfer.ReadEnd.TheVariants.{Fault, Long, Memory}
 

@@ -1,1 +1,1 @@
-pub mod lists
+pub mod list

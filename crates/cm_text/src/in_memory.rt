@@ -2,13 +2,13 @@
 ghost use Rattle.std.specs.Prelude.{◌≡◌, ◌<◌, ◌≤◌, length, take as front_of, is_err, Some, IfOk, OnErr};
 ghost use Rattle.std.specs.Io.{ReadsAtMost, WritesAtMost};
 ghost use Rattle.std.specs.Io.KnownBytes.{ReadConsumes, WriteAppends};
-ghost use Rattle.cm_text.specs.Counts.{Rose, raised, is_next_among};
+ghost use Rattle.cm_text.specs.Count.{Rose, next_count, is_next_among};
 ghost use Rattle.cm_text.specs.SourceState.{fresh_source, is_read_failing, given_count, after_read};
 ghost use Rattle.cm_text.specs.SinkState.{fresh_sink, is_write_failing, taken_count, after_write};
 
-use crate::errors::{Failed, Memory};
-use crate::lists::{Bytes, List};
-use crate::streams::{Sink, Source};
+use crate::error::{Failed, Memory};
+use crate::list::{Bytes, List};
+use crate::stream::{Sink, Source};
 use std::marker::Model;
 
 /// A source over bytes in memory.
@@ -73,7 +73,7 @@ impl Source for MemSource {
         ensures bytes { ReadConsumes (Some self.old.left) (Some self.new.left) result into.new }
         ensures fault { OnErr result (Rose self.old.faults self.new.faults) }
         ensures kept { self.old.faults ≤ self.new.faults }
-        ensures counted { self.new.calls ≡ raised self.old.calls }
+        ensures counted { self.new.calls ≡ next_count self.old.calls }
     {
         let failing = is_next_among(self.fails.items(), self.calls);
         self.calls = self.calls.saturating_add(1);

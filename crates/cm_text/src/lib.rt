@@ -1,20 +1,20 @@
 //! Byte sources and sinks, lists that contracts see as lists, and the numbers of standard input.
 #![tactic(auto)]
 
-mod errors;
+mod error;
 mod in_memory;
-mod lists;
-mod numbers;
+mod list;
+mod numeral;
 mod real;
-mod streams;
+mod stream;
 mod transfer;
 
-pub use errors::{Failed, Memory};
+pub use error::{Failed, Memory};
 pub use in_memory::{MemSink, MemSource};
-pub use lists::{Bytes, List};
-pub use numbers::number;
-pub use real::{RealSink, RealSource};
-pub use streams::{Sink, Source};
+pub use list::{Bytes, List};
+pub use numeral::number;
+pub use real::{ReaderSource, RealSink, RealSource, WriterSink};
+pub use stream::{Sink, Source};
 pub use transfer::{ReadEnd, read_all, write_all};
 
 #[cfg(test)]

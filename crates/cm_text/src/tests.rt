@@ -1,7 +1,7 @@
 //! Each public call once, with ample memory, and the edges of the limit and of numbers.
 use super::{
-    Bytes, Failed, List, MemSink, MemSource, Memory, ReadEnd, RealSink, RealSource, Source, number,
-    read_all, write_all,
+    Bytes, Failed, List, MemSink, MemSource, Memory, ReadEnd, ReaderSource, RealSink, RealSource,
+    Source, WriterSink, number, read_all, write_all,
 };
 use std::alloc::Global;
 use std::test::Fail;
@@ -38,6 +38,13 @@ fn reads(rt: HostRuntime) -> Result<(), Fail> {
     assert_eq!(rt; source.read(&mut room), Ok(1));
     assert_eq!(rt; room.as_slice(), b"zy\0".as_slice());
     assert_eq!(rt; source.read(&mut room), Ok(0));
+
+    let mut source = ReaderSource::new(b"xyz".as_slice());
+    assert_eq!(rt;
+        read_all(rt.alloc(), &mut source, 3)?.items(),
+        b"xyz".as_slice()
+    );
+    let _source = RealSource::new(rt.stdin());
     Ok(())
 }
 
@@ -56,7 +63,12 @@ fn writes(rt: HostRuntime) -> Result<(), Fail> {
     assert_eq!(rt; write_all(&mut sink, b"xy"), Ok(()));
     assert_eq!(rt; sink.taken(), b"abcdxy".as_slice());
 
-    let _source = RealSource::new(rt.stdin());
+    let mut page = Vec::new(rt.alloc());
+    assert_eq!(rt;
+        write_all(&mut WriterSink::new(&mut page), b"abcdef"),
+        Ok(())
+    );
+    assert_eq!(rt; page.as_slice(), b"abcdef".as_slice());
     assert_eq!(rt; write_all(&mut RealSink::new(rt.stdout()), b""), Ok(()));
     Ok(())
 }

@@ -1,12 +1,12 @@
 //! Whole transfers: all bytes up to the end of input, and all bytes out.
 ghost use Rattle.std.specs.Prelude.{◌≡◌, ◌+◌, ◌≤◌, length, IfOk, IfErr, IfSome, OnOk, OnErr};
 ghost use Rattle.std.specs.Io.KnownBytes.{Appends, Consumes, IsAtEnd};
-ghost use Rattle.cm_text.specs.Counts.{Rose};
+ghost use Rattle.cm_text.specs.Count.{Rose};
 ghost use Rattle.cm_text.specs.Transfer.{Causes, GaveSome, TookFront};
 
-use crate::errors::{Failed, Memory};
-use crate::lists::{Bytes, List};
-use crate::streams::{Sink, Source};
+use crate::error::{Failed, Memory};
+use crate::list::{Bytes, List};
+use crate::stream::{Sink, Source};
 use std::alloc::Global;
 
 /// Why reading stopped before the end of input.

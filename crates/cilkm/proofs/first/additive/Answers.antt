@@ -1,4 +1,4 @@
-use Rattle.cilkm.proofs.Chains.{no_additive}
+use Rattle.cilkm.proofs.ChainLaws.{no_additive}
 use Rattle.cilkm.proofs.first.additive.Goals as goal
 
 pub returns-in_err-rest-clause-only : goal.returns-in_err-rest-clause-only

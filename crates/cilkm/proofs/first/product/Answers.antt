@@ -2,7 +2,7 @@ use Rattle.std.proofs.Common.{◌∙◌, ap, arith}
 use Rattle.cm_syntax.specs.declared.expr.Op.TheVariants.{Mul}
 use Rattle.cm_syntax.specs.Shape.{Joined}
 use Rattle.cilkm.specs.First.{is_multiplicative, IsFactor}
-use Rattle.cilkm.proofs.Chains.{product_begins, product_from_factor, continues_at, next_from_sign, ended, no_multiplicative}
+use Rattle.cilkm.proofs.ChainLaws.{product_begins, product_from_factor, continues_at, next_from_sign, same_at_end, no_multiplicative}
 use Rattle.cilkm.proofs.first.product.Goals as goal
 
 pub returns-in_default-clause-only : goal.returns-in_default-clause-only
@@ -28,7 +28,7 @@ returns-in_default-factor-clause-only c = λ whole end h none.
 pub loop-behind-preserved : goal.loop-behind-preserved
 loop-behind-preserved c = record {
   shorter = omega (arith, c.loop-behind.invariant.shorter, c.in-Some-sign.ensures.shorter, c.in-Some-factor.ensures.shorter);
-  reads = rw c.in_ok-left.ensures (record { at_sign = _; after_sign = _; left = c.loop-behind.invariant.reads; sign_stands = c.in-Some-sign.ensures.found; right = c.in-Some-factor.ensures.found });
+  reads = rw c.in_ok-left.ensures (record { at_sign = _; after_sign = _; left = c.loop-behind.invariant.reads; sign = c.in-Some-sign.ensures.found; right = c.in-Some-factor.ensures.found });
   only = λ whole end h none.
       let n = next_from_sign is_multiplicative IsFactor whole _ end _ (c.loop-behind.invariant.only whole end h none) Mul _ c.in-Some-sign.ensures.found none in
       let same = c.in-Some-factor.ensures.only n.right n.next n.operand in
@@ -37,4 +37,4 @@ loop-behind-preserved c = record {
 
 pub returns-clause-only : goal.returns-clause-only
 returns-clause-only c = λ whole end h none.
-    ended is_multiplicative IsFactor whole _ end _ (c.loop-behind.invariant.only whole end h none) (no_multiplicative _ c.in_default-sign.ensures.only)
+    same_at_end is_multiplicative IsFactor whole _ end _ (c.loop-behind.invariant.only whole end h none) (no_multiplicative _ c.in_default-sign.ensures.only)

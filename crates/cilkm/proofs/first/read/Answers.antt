@@ -1,15 +1,15 @@
 use Rattle.std.proofs.Common.{refl, arith}
 use Rattle.cilkm.specs.First.{IsSum, Closes}
-use Rattle.cilkm.proofs.Form.{signs_form, quiet_at_close, closed_sum}
+use Rattle.cilkm.proofs.FormLaws.{signs_form, quiet_at_close, closed_sum}
 use Rattle.cilkm.proofs.first.read.Goals as goal
-use Rattle.cilkm.proofs.first.read.Goals.{then-source-gt-MAX_BYTES-via-then-source-gt-MAX_BYTES, then-source-gt-MAX_BYTES-via-else-source-gt-MAX_BYTES+then-sign_count-gt-MAX_SIGNS}
+use Rattle.cilkm.proofs.first.read.Goals.{then-source-gt-MAX_SOURCE-via-then-source-gt-MAX_SOURCE, then-source-gt-MAX_SOURCE-via-else-source-gt-MAX_SOURCE+then-sign_count-gt-MAX_SIGNS}
 
-pub returns-then-source-gt-MAX_BYTES-clause-refused : goal.returns-then-source-gt-MAX_BYTES-clause-refused
-returns-then-source-gt-MAX_BYTES-clause-refused c = λ e w.
+pub returns-then-source-gt-MAX_SOURCE-clause-refused : goal.returns-then-source-gt-MAX_SOURCE-clause-refused
+returns-then-source-gt-MAX_SOURCE-clause-refused c = λ e w.
     let count = signs_form e c.args.source.now w.text w.rest w.opens w.sum w.closes in
-    elim c.then-source-gt-MAX_BYTES.branch [
-      | then-source-gt-MAX_BYTES-via-then-source-gt-MAX_BYTES v ↦ omega (arith, w.short)
-      | then-source-gt-MAX_BYTES-via-else-source-gt-MAX_BYTES+then-sign_count-gt-MAX_SIGNS v ↦ omega (arith, w.few_signs, count)
+    elim c.then-source-gt-MAX_SOURCE.branch [
+      | then-source-gt-MAX_SOURCE-via-then-source-gt-MAX_SOURCE v ↦ omega (arith, w.short)
+      | then-source-gt-MAX_SOURCE-via-else-source-gt-MAX_SOURCE+then-sign_count-gt-MAX_SIGNS v ↦ omega (arith, w.few_signs, count)
     ]
 
 pub returns-in_default-clause-refused : goal.returns-in_default-clause-refused

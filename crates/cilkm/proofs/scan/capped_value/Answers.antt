@@ -1,6 +1,6 @@
 use Rattle.std.proofs.Common.{arith}
 use Rattle.std.proofs.lemmas.Str.Parse.{digit_at}
-use Rattle.cilkm.proofs.Tokens.{capped_more}
+use Rattle.cilkm.proofs.TokenLaws.{capped_more}
 use Rattle.cilkm.proofs.scan.capped_value.Goals as goal
 
 pub overflow_sub-digit : goal.overflow_sub-digit

@@ -1,8 +1,8 @@
 use Rattle.std.proofs.Common.{subst, sym, ◌∙◌, refl}
 use Rattle.std.specs.Char.{is_ascii_digit}
 use Rattle.std.specs.Str.Parse.{AllDigits}
-use Rattle.cilkm.specs.Scan.{is_space}
-use Rattle.cilkm.proofs.Tokens.{digits_count, front_passes, literal_from_parts, parts_from_literal, literal_word, length_twice}
+use Rattle.cm_syntax.specs.Text.{is_space}
+use Rattle.cilkm.proofs.TokenLaws.{digits_count, front_passes, literal_from_parts, parts_from_literal, literal_word, length_twice}
 use Rattle.cilkm.proofs.scan.literal.Goals as goal
 
 pub number-requires : goal.number-requires

@@ -1,5 +1,6 @@
 use Rattle.std.proofs.Common.{◌≡◌, length}
-use Rattle.cilkm.specs.Scan.{is_space, after}
+use Rattle.cm_syntax.specs.Text.{is_space}
+use Rattle.cilkm.specs.Scan.{after}
 use Rattle.cilkm.proofs.scan.skip_space.Given as goal
 
 abbrev pub invariant-loop-first : goal.invariant-loop-first

@@ -1,9 +1,10 @@
 use Rattle.cilkm.specs.Verdict.{command_of, texts}
-use Rattle.cilkm.proofs.StillLaws.{statuses, says_told_value}
+use Rattle.cilkm.proofs.StillLaws.{answer_with_cause, says_told_value}
 use Rattle.cilkm.proofs.still.still.Goals as goal
 
-pub returns-clause-statuses : goal.returns-clause-statuses
-returns-clause-statuses g c = statuses c.judge-verdict.result c.tell.result _ _ _ _ c.tell.ensures.told
+pub returns-clause-answered : goal.returns-clause-answered
+returns-clause-answered g c =
+    answer_with_cause c.judge-verdict.result c.tell.result _ _ _ _ _ _ _ _ c.judge-verdict.ensures.cause c.tell.ensures.told
 
 pub returns-clause-serial : goal.returns-clause-serial
 returns-clause-serial g c = λ serial.

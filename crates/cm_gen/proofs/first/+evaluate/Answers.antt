@@ -1,6 +1,7 @@
+use Rattle.cm_isa.specs.declared.convention.TheConstants as reg
 use Rattle.std.proofs.Common.{◌+◌, ap, ◌∙◌, subst, sym, arith}
 use Rattle.cm_syntax.specs.Expr as expression
-use Rattle.cm_gen.proofs.Trees.{closed-Binary, operator_count-Binary, evaluate-Binary}
+use Rattle.cm_gen.proofs.Tree.{closed-Binary, operator_count-Binary, evaluate-Binary}
 use Rattle.std.specs.Prelude.{ℕ}
 use Rattle.std.specs.Int.{w32}
 use Rattle.std.proofs.lemmas.Int.{to_z-of_z}
@@ -35,7 +36,7 @@ returns-in_ok-push-in-Binary t c =
     let bring_at = to_z-of_z w32 c.temporary-in-Binary.result (record { sfits = c.temporary-in-Binary.type_inv }) ∙ c.temporary-in-Binary.ensures in
     rw whole (appended_five _ _ _ _ _ _ _ _ _ _ _ _ _ _ _ _
     c.in_ok-evaluate-in-Binary.ensures (ap (λ e. code e c.args.depth) c.get.ensures)
-    c.in_ok-store_slot-in-Binary.ensures (ap (pattern.store_slot 5) keep_at)
+    c.in_ok-store_slot-in-Binary.ensures (ap (pattern.store_slot reg.VALUE) keep_at)
     c.in_ok-evaluate-in-Binary-2.ensures (ap (λ e. code e (c.args.depth + 1)) c.get-in-Binary.ensures)
-    c.in_ok-load_slot-in-Binary.ensures (ap (pattern.load_slot 6) bring_at)
+    c.in_ok-load_slot-in-Binary.ensures (ap (pattern.load_slot reg.LEFT) bring_at)
     c.in_ok-push-in-Binary.ensures.ok c.operate.ensures)

@@ -1,7 +1,7 @@
 use Rattle.std.proofs.Common.{◌+◌, ap, ◌∙◌, subst, sym, arith}
 use Rattle.cm_syntax.specs.Expr as expression
 use Rattle.cm_syntax.specs.Frame as frame
-use Rattle.cm_gen.proofs.Trees.{closed-Binary, operator_count-Binary, temporaries-Binary}
+use Rattle.cm_gen.proofs.Tree.{closed-Binary, operator_count-Binary, temporaries-Binary}
 use Rattle.cm_gen.proofs.first.+temporaries.Goals as goal
 
 pub temporaries-first-requires : goal.temporaries-first-requires

@@ -1,7 +1,7 @@
 use Rattle.std.proofs.Common.{◌≡◌, ◌+◌, ◌∷◌, [], ◌++◌, take, ap, sym, ◌∙◌, subst}
 use Rattle.std.proofs.lemmas.List.{take_more}
-use Rattle.cm_isa.specs.Places.{AreWordsOf}
-use Rattle.cm_gen.proofs.Emitted.{AreWordsOf-push}
+use Rattle.cm_isa.specs.Address.{AreWordsOf}
+use Rattle.cm_isa.proofs.Image.{AreWordsOf-push}
 use Rattle.cm_gen.proofs.first.assembled.Goals as goal
 
 pub loop-instr-preserved : goal.loop-instr-preserved

@@ -1,5 +1,5 @@
 use Rattle.std.proofs.Common.{take}
-use Rattle.cm_isa.specs.Places.{AreWordsOf}
+use Rattle.cm_isa.specs.Address.{AreWordsOf}
 use Rattle.cm_gen.proofs.first.assembled.Given as goal
 
 -- the words so far are those of the instructions so far

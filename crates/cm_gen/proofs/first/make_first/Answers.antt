@@ -1,6 +1,6 @@
 use Rattle.std.proofs.Common.{◌++◌, ap, ◌∙◌, subst}
 use Rattle.cm_gen.specs.Code.{first_code}
-use Rattle.cm_isa.specs.Places.{AreWordsOf}
+use Rattle.cm_isa.specs.Address.{AreWordsOf}
 use Rattle.cm_gen.proofs.Image.{runs_to}
 use Rattle.cm_gen.proofs.first.make_first.Goals as goal
 

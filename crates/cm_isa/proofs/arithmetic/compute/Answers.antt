@@ -1,4 +1,4 @@
-use Rattle.cm_isa.proofs.WordLaws.{low_product}
+use Rattle.cm_isa.proofs.Word.{low_product}
 use Rattle.cm_isa.proofs.arithmetic.compute.Goals as goal
 
 pub returns-in-Mul : goal.returns-in-Mul

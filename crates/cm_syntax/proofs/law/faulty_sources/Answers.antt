@@ -1,4 +1,4 @@
-use Rattle.cm_syntax.proofs.NameRows.{twice_row, plain_sync_row, no_main_row, unknown_row, part_outside_row, whole_inside_row, outer_whole_row, deeper_whole_row, same_parts_row, own_value_row, for_scope_row, parameter_scope_row, arguments_row, misused_row, unknown_argument_row, destinations_row, void_main_row, wrong_main_row, many_words_row, great_frame_row}
+use Rattle.cm_syntax.proofs.NameRows.{twice_row, plain_sync_row, no_main_row, unknown_row, part_outside_row, whole_inside_row, outer_whole_row, deeper_whole_row, same_parts_row, own_value_row, for_scope_row, parameter_scope_row, arguments_row, misused_row, unknown_argument_row, destinations_row, void_main_row, wrong_main_row, many_words_row, great_frame_row, eight_words_row}
 use Rattle.cm_syntax.proofs.law.faulty_sources.Goals as goal
 
 pub returns-clause-twice : goal.returns-clause-twice
@@ -60,3 +60,6 @@ returns-clause-many_words c = many_words_row
 
 pub returns-clause-great_frame : goal.returns-clause-great_frame
 returns-clause-great_frame c = great_frame_row
+
+pub returns-clause-eight_words : goal.returns-clause-eight_words
+returns-clause-eight_words c = eight_words_row

@@ -40,13 +40,13 @@ pub returns-clause-item : goal.returns-clause-item
 returns-clause-item c = (_, _, (grammar.Item.scalar x, refl, refl))
 
 pub returns-clause-declaration : goal.returns-clause-declaration
-returns-clause-declaration c = (_, _, (record { int_at = 0; declarators = grammar.Items.last (grammar.Item.scalar x) }, refl, refl))
+returns-clause-declaration c = (_, _, (record { int_at = 0; items = grammar.Items.last (grammar.Item.scalar x) }, refl, refl))
 
 pub returns-clause-call : goal.returns-clause-call
 returns-clause-call c = (_, _, (grammar.Call.alone x 0 0, refl, refl))
 
-pub returns-clause-declarators : goal.returns-clause-declarators
-returns-clause-declarators c = (_, _, (grammar.Items.last (grammar.Item.scalar x), refl, refl))
+pub returns-clause-items : goal.returns-clause-items
+returns-clause-items c = (_, _, (grammar.Items.last (grammar.Item.scalar x), refl, refl))
 
 pub returns-clause-target : goal.returns-clause-target
 returns-clause-target c = (_, _, (grammar.Target.scalar x, refl, refl))

@@ -1,4 +1,4 @@
-use Rattle.cm_syntax.proofs.OneProgram.{Parses-one, IsSourceOf-one}
+use Rattle.cm_syntax.proofs.machine.OneTree.{Parses-one, IsSourceOf-one}
 use Rattle.cm_syntax.proofs.law.one_tree.Goals as goal
 
 pub returns-clause-tokens : goal.returns-clause-tokens

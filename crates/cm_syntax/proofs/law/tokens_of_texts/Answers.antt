@@ -1,4 +1,4 @@
-use Rattle.cm_syntax.proofs.SourceRows.{longest_row, comment_row, words_row, faulty_row}
+use Rattle.cm_syntax.proofs.SourceRows.{longest_row, comment_row, words_row, faulty_row, tokens_of}
 use Rattle.cm_syntax.proofs.law.tokens_of_texts.Goals as goal
 
 pub returns-clause-longest : goal.returns-clause-longest
@@ -12,3 +12,12 @@ returns-clause-words c = words_row
 
 pub returns-clause-faulty : goal.returns-clause-faulty
 returns-clause-faulty c = faulty_row
+
+pub returns-clause-all_signs : goal.returns-clause-all_signs
+returns-clause-all_signs c = tokens_of _
+
+pub returns-clause-all_words : goal.returns-clause-all_words
+returns-clause-all_words c = tokens_of _
+
+pub returns-clause-words_set_aside : goal.returns-clause-words_set_aside
+returns-clause-words_set_aside c = tokens_of _

@@ -1,0 +1,213 @@
+-- What each pattern of the code does: the machine comes from the pattern's place to the place machine_after it.
+use Rattle.cm_isa.specs.declared.convention.TheConstants as reg
+use Rattle.std.proofs.Common.{◌≡◌, ℕ, ◌+◌, ◌*◌, ◌%◌, ◌^◌, ◌<◌, [], ◌∷◌, length, Option, None, Some, refl, sym, ap, ◌∙◌, subst, arith}
+use Rattle.std.proofs.lemmas.Option.{none-some}
+use Rattle.std.specs.Prelude.{Bool, true, false, ◌==◌, if◌then◌else◌, ℤ, ◌+ℤ◌, ◌-ℤ◌, ◌*ℤ◌, FitsSigned}
+use Rattle.std.specs.Int.{w32, cast_unsigned}
+use Rattle.cm_isa.specs.Operation.{Operation}
+use Rattle.cm_isa.specs.Alu.{int, word, offset}
+use Rattle.cm_isa.specs.Action.{follow}
+use Rattle.cm_isa.specs.Machine.{Machine, Code, InstructionsAt, machine_after, machine_with, with_word}
+use Rattle.cm_isa.specs.Run.{ComesTo}
+use Rattle.cm_isa.specs.Register.{with_register}
+use Rattle.cm_gen.specs.Assembler.{lui, addi, add, lw, sw}
+use Rattle.cm_syntax.specs.declared.expr.Op.{Op}
+use Rattle.cm_syntax.specs.declared.expr.Op.TheVariants.{Mul, Add, Sub}
+use Rattle.cm_syntax.specs.Word.{wrap, apply_operator}
+use Rattle.cm_gen.specs.Code.{is_near, low_part, high_part, load_number, load_slot, store_slot, operate}
+use Rattle.cm_gen.proofs.WordLaw as words
+use Rattle.cm_gen.proofs.Step.{comes_by_one, comes_on, follow_is, with_register_same, with_register_other, load_word, store_word}
+
+-- the machine t is at the place `bytes` further, register r has the word v, and all else is as in m
+pub record Sets (r v bytes : ℕ) (m t : Machine) : Type 0 where
+  pub counter : t.counter ≡ m.counter + bytes
+  pub value : t.registers r ≡ v
+  pub kept : (q : ℕ) → (q == r) ≡ false → t.registers q ≡ m.registers q
+  pub words : t.words ≡ m.words
+
+-- the same, but that the word at the address a is v, and x7 may have changed
+pub record Puts (a v bytes : ℕ) (m t : Machine) : Type 0 where
+  pub counter : t.counter ≡ m.counter + bytes
+  pub kept : (q : ℕ) → (q == reg.HELP) ≡ false → t.registers q ≡ m.registers q
+  pub words : t.words ≡ with_word m.words a v
+
+same_value : (a b : ℤ) → Some a ≡ Some b → a ≡ b
+same_value a b e = cc
+
+module _ (code : Code) where
+  -- an instruction that sets a register
+  pub sets_by_one : (i : Operation) (r v : ℕ) (m : Machine) → (r == reg.ZERO) ≡ false → m.counter + 4 < 2 ^ 32 → code m.counter i
+      → machine_after i m ≡ Some (machine_with m (with_register m.registers r v) (follow m.counter))
+      → (t : Machine) × ComesTo code 1 m t × Sets r v 4 m t
+  sets_by_one i r v m nonzero room stands effect =
+      let t = machine_with m (with_register m.registers r v) (follow m.counter) in (
+        t,
+        comes_by_one code i m t stands effect,
+        record {
+          counter = follow_is m.counter room;
+          value = with_register_same m.registers r v nonzero;
+          kept = λ q other. with_register_other m.registers r v q other;
+          words = refl;
+        },
+      )
+
+  -- two such instructions
+  pub sets_by_two : (i j : Operation) (r u v : ℕ) (m : Machine) → (r == reg.ZERO) ≡ false → m.counter + 8 < 2 ^ 32 → code m.counter i → code (m.counter + 4) j
+      → machine_after i m ≡ Some (machine_with m (with_register m.registers r u) (follow m.counter))
+      → ((t : Machine) → Sets r u 4 m t → machine_after j t ≡ Some (machine_with t (with_register t.registers r v) (follow t.counter)))
+      → (t : Machine) × ComesTo code 2 m t × Sets r v 8 m t
+  sets_by_two i j r u v m nonzero room stands next effect then_effect =
+      let first = sets_by_one i r u m nonzero (omega arith) stands effect in
+      let t = first.0 in
+      let does = first.2 in
+      let room' : t.counter + 4 < 2 ^ 32 = omega (arith, does.counter) in
+      let second = sets_by_one j r v t nonzero room' (subst (λ p. code p j) (sym does.counter) next) (then_effect t does) in (
+        second.0,
+        comes_on code 1 1 m t second.0 first.1 second.1,
+        record {
+          counter = omega (arith, second.2.counter, does.counter);
+          value = second.2.value;
+          kept = λ q other. second.2.kept q other ∙ does.kept q other;
+          words = second.2.words ∙ does.words;
+        },
+      )
+
+  -- a number in a register
+  load_number_by : (near : Bool) (r : ℕ) (n : ℤ) (m : Machine) → (r == reg.ZERO) ≡ false → m.registers reg.ZERO ≡ 0 → FitsSigned w32 n → m.counter + 8 < 2 ^ 32
+      → InstructionsAt code m.counter (if near then addi r reg.ZERO n ∷ [] else lui r (high_part n) ∷ addi r r (low_part n) ∷ [])
+      → let size = length (if near then addi r reg.ZERO n ∷ [] else lui r (high_part n) ∷ addi r r (low_part n) ∷ []) in
+      (t : Machine) × ComesTo code size m t × Sets r (cast_unsigned w32 n) (4 * size) m t
+  load_number_by true r n m nonzero zero_is fits room stands =
+      let bits = cast_unsigned w32 n in
+      let value : word (int (m.registers reg.ZERO) +ℤ int bits) ≡ bits =
+      rw zero_is (words.word-add 0 bits (omega arith) (words.cast_unsigned_below n fits) ∙ (let below = words.cast_unsigned_below n fits in omega arith)) in
+      sets_by_one (addi r reg.ZERO n) r bits m nonzero (omega arith) stands.0 (ap (λ v. Some (machine_with m (with_register m.registers r v) (follow m.counter))) value)
+  load_number_by false r n m nonzero zero_is fits room stands =
+      let upper = cast_unsigned w32 (high_part n) in
+      let lower = cast_unsigned w32 (low_part n) in
+      let value : word (int upper +ℤ int lower) ≡ cast_unsigned w32 n =
+      rw (words.int-cast_unsigned (high_part n) (words.wrapped_fits _), words.int-cast_unsigned (low_part n) (words.low_part_fits n)) (words.word-parts n ∙ words.word-fits n fits) in
+      sets_by_two (lui r (high_part n)) (addi r r (low_part n)) r upper (cast_unsigned w32 n) m nonzero room stands.0 stands.1.0 refl
+      (λ t does. ap (λ v. Some (machine_with t (with_register t.registers r v) (follow t.counter))) (ap (λ u. word (int u +ℤ int lower)) does.value ∙ value))
+
+  pub load_number_runs : (r : ℕ) (n : ℤ) (m : Machine) → (r == reg.ZERO) ≡ false → m.registers reg.ZERO ≡ 0 → FitsSigned w32 n → m.counter + 8 < 2 ^ 32
+      → InstructionsAt code m.counter (load_number r n)
+      → (t : Machine) × ComesTo code (length (load_number r n)) m t × Sets r (cast_unsigned w32 n) (4 * length (load_number r n)) m t
+  load_number_runs r n m nonzero zero_is fits room stands = load_number_by (is_near n) r n m nonzero zero_is fits room stands
+
+  -- the place after two instructions
+  second_next : (i : Operation) (p : ℕ) → code (p + 4 + 4) i → code (p + 8) i
+  second_next i p h = let e : p + 4 + 4 ≡ p + 8 = omega arith in subst (λ n. code n i) e h
+
+  -- the high part of an offset, added to the frame pointer: with the low part it is the address
+  far_base : (r : ℕ) (o : ℤ) (m : Machine) → (r == reg.ZERO) ≡ false → (reg.FP == r) ≡ false → m.registers reg.FP < 2 ^ 32 → m.counter + 8 < 2 ^ 32
+      → code m.counter (lui r (high_part o)) → code (m.counter + 4) (add r r reg.FP)
+      → (t : Machine) × ComesTo code 2 m t × Sets r (word (int (cast_unsigned w32 (high_part o)) +ℤ int (m.registers reg.FP))) 8 m t
+      × (offset (t.registers r) (low_part o) ≡ offset (m.registers reg.FP) o)
+  far_base r o m nonzero other frame room stands next =
+      let upper = cast_unsigned w32 (high_part o) in
+      let base = word (int upper +ℤ int (m.registers reg.FP)) in
+      let two = sets_by_two (lui r (high_part o)) (add r r reg.FP) r upper base m nonzero room stands next refl
+      (λ t does. ap (λ v. Some (machine_with t (with_register t.registers r v) (follow t.counter))) (ap (λ u. word (int u +ℤ int (t.registers reg.FP))) does.value ∙ ap (λ u. word (int upper +ℤ int u)) (does.kept reg.FP other))) in
+      (two.0, two.1, two.2, ap (λ u. offset u (low_part o)) two.2.value ∙ words.far_offset o (m.registers reg.FP) frame)
+
+  -- the word of a register at an offset from the frame pointer
+  store_slot_by : (near : Bool) (r : ℕ) (o : ℤ) (a old : ℕ) (m : Machine) → (r == reg.HELP) ≡ false → m.registers reg.FP < 2 ^ 32
+      → offset (m.registers reg.FP) o ≡ a → a % 4 ≡ 0 → m.words a ≡ Some old → m.counter + 12 < 2 ^ 32
+      → InstructionsAt code m.counter (if near then sw r reg.FP o ∷ [] else lui reg.HELP (high_part o) ∷ add reg.HELP reg.HELP reg.FP ∷ sw r reg.HELP (low_part o) ∷ [])
+      → let size = length (if near then sw r reg.FP o ∷ [] else lui reg.HELP (high_part o) ∷ add reg.HELP reg.HELP reg.FP ∷ sw r reg.HELP (low_part o) ∷ []) in
+      (t : Machine) × ComesTo code size m t × Puts a (m.registers r) (4 * size) m t
+  store_slot_by true r o a old m other frame place aligned there room stands =
+      let v = m.registers r in
+      let t : Machine = record { registers = m.registers; counter = follow m.counter; words = with_word m.words a v } in
+      let effect : machine_after (sw r reg.FP o) m ≡ Some t = rw place (store_word 0 a v old m aligned there) in (
+        t,
+        comes_by_one code (sw r reg.FP o) m t stands.0 effect,
+        record {
+          counter = follow_is m.counter (omega arith);
+          kept = λ q h. refl;
+          words = refl;
+        },
+      )
+  store_slot_by false r o a old m other frame place aligned there room stands =
+      let upper = cast_unsigned w32 (high_part o) in
+      let base = word (int upper +ℤ int (m.registers reg.FP)) in
+      let two = far_base reg.HELP o m refl refl frame (omega arith) stands.0 stands.1.0 in
+      let s = two.0 in
+      let does = two.2 in
+      let v = m.registers r in
+      let t : Machine = record { registers = s.registers; counter = follow s.counter; words = with_word s.words a v } in
+      let at : offset (s.registers reg.HELP) (low_part o) ≡ a = two.3 ∙ place in
+      let same : s.registers r ≡ v = does.kept r other in
+      let here : s.words a ≡ Some old = ap (λ w. w a) does.words ∙ there in
+      let effect : machine_after (sw r reg.HELP (low_part o)) s ≡ Some t = rw (at, same) (store_word 0 a v old s aligned here) in
+      let stands' = subst (λ p. code p (sw r reg.HELP (low_part o))) (sym does.counter) (second_next (sw r reg.HELP (low_part o)) m.counter stands.1.1.0) in (
+        t,
+        comes_on code 2 1 m s t two.1 (comes_by_one code (sw r reg.HELP (low_part o)) s t stands' effect),
+        record {
+          counter = omega (arith, follow_is s.counter (omega (arith, does.counter)), does.counter);
+          kept = λ q h. does.kept q h;
+          words = ap (λ w. with_word w a v) does.words;
+        },
+      )
+
+  pub store_slot_runs : (r : ℕ) (o : ℤ) (a old : ℕ) (m : Machine) → (r == reg.HELP) ≡ false → m.registers reg.FP < 2 ^ 32
+      → offset (m.registers reg.FP) o ≡ a → a % 4 ≡ 0 → m.words a ≡ Some old → m.counter + 12 < 2 ^ 32
+      → InstructionsAt code m.counter (store_slot r o)
+      → (t : Machine) × ComesTo code (length (store_slot r o)) m t × Puts a (m.registers r) (4 * length (store_slot r o)) m t
+  store_slot_runs r o a old m other frame place aligned there room stands = store_slot_by (is_near o) r o a old m other frame place aligned there room stands
+
+  -- an offset from the frame pointer, in a register
+  load_slot_by : (near : Bool) (r : ℕ) (o : ℤ) (a v : ℕ) (m : Machine) → (r == reg.ZERO) ≡ false → (reg.FP == r) ≡ false → m.registers reg.FP < 2 ^ 32
+      → offset (m.registers reg.FP) o ≡ a → a % 4 ≡ 0 → m.words a ≡ Some v → m.counter + 12 < 2 ^ 32
+      → InstructionsAt code m.counter (if near then lw r reg.FP o ∷ [] else lui r (high_part o) ∷ add r r reg.FP ∷ lw r r (low_part o) ∷ [])
+      → let size = length (if near then lw r reg.FP o ∷ [] else lui r (high_part o) ∷ add r r reg.FP ∷ lw r r (low_part o) ∷ []) in
+      (t : Machine) × ComesTo code size m t × Sets r v (4 * size) m t
+  load_slot_by true r o a v m nonzero other frame place aligned there room stands =
+      sets_by_one (lw r reg.FP o) r v m nonzero (omega arith) stands.0 (rw place (load_word r a v m aligned there))
+  load_slot_by false r o a v m nonzero other frame place aligned there room stands =
+      let two = far_base r o m nonzero other frame (omega arith) stands.0 stands.1.0 in
+      let s = two.0 in
+      let does = two.2 in
+      let at : offset (s.registers r) (low_part o) ≡ a = two.3 ∙ place in
+      let here : s.words a ≡ Some v = ap (λ w. w a) does.words ∙ there in
+      let stands' = subst (λ p. code p (lw r r (low_part o))) (sym does.counter) (second_next (lw r r (low_part o)) m.counter stands.1.1.0) in
+      let room' : s.counter + 4 < 2 ^ 32 = omega (arith, does.counter) in
+      let last = sets_by_one (lw r r (low_part o)) r v s nonzero room' stands' (rw at (load_word r a v s aligned here)) in (
+        last.0,
+        comes_on code 2 1 m s last.0 two.1 last.1,
+        record {
+          counter = omega (arith, last.2.counter, does.counter);
+          value = last.2.value;
+          kept = λ q h. last.2.kept q h ∙ does.kept q h;
+          words = last.2.words ∙ does.words;
+        },
+      )
+
+  pub load_slot_runs : (r : ℕ) (o : ℤ) (a v : ℕ) (m : Machine) → (r == reg.ZERO) ≡ false → (reg.FP == r) ≡ false → m.registers reg.FP < 2 ^ 32
+      → offset (m.registers reg.FP) o ≡ a → a % 4 ≡ 0 → m.words a ≡ Some v → m.counter + 12 < 2 ^ 32
+      → InstructionsAt code m.counter (load_slot r o)
+      → (t : Machine) × ComesTo code (length (load_slot r o)) m t × Sets r v (4 * length (load_slot r o)) m t
+  load_slot_runs r o a v m nonzero other frame place aligned there room stands = load_slot_by (is_near o) r o a v m nonzero other frame place aligned there room stands
+
+  -- an operator of two words, its left one in x6 and its right one in x5
+  pub operate_runs : (op : Op) (left right value : ℤ) (m : Machine) → FitsSigned w32 left → FitsSigned w32 right → apply_operator op left right ≡ Some value
+      → m.registers reg.LEFT ≡ cast_unsigned w32 left → m.registers reg.VALUE ≡ cast_unsigned w32 right → m.counter + 4 < 2 ^ 32 → code m.counter (operate op)
+      → (t : Machine) × ComesTo code 1 m t × Sets reg.VALUE (cast_unsigned w32 value) 4 m t
+  operate_runs op left right value m fits_left fits_right means six five room stands =
+      sets_by_one (operate op) 5 (cast_unsigned w32 value) m refl room stands (operated op means)
+    where
+      joined : (f : ℤ → ℤ → ℤ) → Some (wrap (f left right)) ≡ Some value → word (f (int (m.registers reg.LEFT)) (int (m.registers reg.VALUE))) ≡ cast_unsigned w32 value
+      joined f e =
+          ap (λ u. word (f (int u) (int (m.registers reg.VALUE)))) six ∙ ap (λ u. word (f (int (cast_unsigned w32 left)) (int u))) five
+          ∙ ap (λ u. word (f u (int (cast_unsigned w32 right)))) (words.int-cast_unsigned left fits_left) ∙ ap (λ u. word (f left u)) (words.int-cast_unsigned right fits_right)
+          ∙ sym (words.cast_unsigned-wrap (f left right)) ∙ ap (cast_unsigned w32) (same_value (wrap (f left right)) value e)
+
+      next : ℕ → Option Machine
+      next v = Some (machine_with m (with_register m.registers reg.VALUE v) (follow m.counter))
+
+      operated : (op : Op) → apply_operator op left right ≡ Some value → machine_after (operate op) m ≡ next (cast_unsigned w32 value)
+      operated Mul e = ap next (joined (λ a b. a *ℤ b) e)
+      operated Add e = ap next (joined (λ a b. a +ℤ b) e)
+      operated Sub e = ap next (joined (λ a b. a -ℤ b) e)
+      operated _ e = absurd (none-some value e)

@@ -1,0 +1,60 @@
+-- Steps of a machine, one after another, and what the instructions of the patterns do in one step.
+use Rattle.cm_isa.specs.declared.convention.TheConstants as reg
+use Rattle.std.proofs.Common.{◌≡◌, ℕ, zero, suc, ◌+◌, ◌-◌, ◌*◌, ◌%◌, ◌^◌, ◌<◌, List, [], ◌∷◌, ◌++◌, length, Some, refl, sym, subst, arith, eq-eqb}
+use Rattle.std.specs.Prelude.{true, false, ◌==◌, if◌then◌else◌}
+use Rattle.cm_isa.specs.Operation.{Operation}
+use Rattle.cm_isa.specs.declared.execution.Action.TheVariants.{Loads, Stores}
+use Rattle.cm_isa.specs.declared.execution.Size.TheVariants.{Whole}
+use Rattle.cm_isa.specs.Action.{follow}
+use Rattle.cm_isa.specs.Machine.{Machine, Code, InstructionsAt, machine_after, action_machine, machine_with, with_word}
+use Rattle.cm_isa.specs.Run.{ComesTo}
+use Rattle.cm_isa.specs.Register.{with_register}
+
+-- the next instruction's place, where it doesn't wrap
+pub follow_is : (p : ℕ) → p + 4 < 2 ^ 32 → follow p ≡ p + 4
+follow_is p h = omega arith
+
+module _ (code : Code) where
+  -- one step
+  pub comes_by_one : (i : Operation) (m next : Machine) → code m.counter i → machine_after i m ≡ Some next → ComesTo code 1 m next
+  comes_by_one i m next stands effect = (next, record { instruction = i; there = stands; effect = effect }, refl)
+
+  -- steps after steps
+  pub comes_on : (a b : ℕ) (m n o : Machine) → ComesTo code a m n → ComesTo code b n o → ComesTo code (a + b) m o
+  comes_on zero b m n o first second =
+      let e : 0 + b ≡ b = omega arith in
+      subst (λ k. ComesTo code k m o) (sym e) (subst (λ q. ComesTo code b q o) (sym first) second)
+  comes_on (suc a) b m n o first second =
+      let e : suc a + b ≡ suc (a + b) = omega arith in
+      subst (λ k. ComesTo code k m o) (sym e) (first.0, first.1, comes_on a b first.0 n o first.2 second)
+
+  -- the front and the back of instructions that stand one after another
+  pub stands_front : (p : ℕ) (a b : List Operation) → InstructionsAt code p (a ++ b) → InstructionsAt code p a
+  stands_front p [] b h = tt
+  stands_front p (i ∷ a) b h = (h.0, stands_front (p + 4) a b h.1)
+
+  pub stands_back : (p : ℕ) (a b : List Operation) → InstructionsAt code p (a ++ b) → InstructionsAt code (p + 4 * length a) b
+  stands_back p [] b h = let e : p ≡ p + 0 = omega arith in subst (λ n. InstructionsAt code n b) e h
+  stands_back p (i ∷ a) b h =
+      let e : p + 4 + 4 * length a ≡ p + 4 * length (i ∷ a) = omega arith in
+      subst (λ n. InstructionsAt code n b) e (stands_back (p + 4) a b h.1)
+
+-- what a register is after a write to it, and after a write to another one
+pub with_register_same : (rs : ℕ → ℕ) (rd v : ℕ) → (rd == reg.ZERO) ≡ false → with_register rs rd v rd ≡ v
+with_register_same rs rd v nonzero = let e : (rd == rd) ≡ true = eq-eqb rd rd refl in rw (nonzero, e) refl
+
+pub with_register_other : (rs : ℕ → ℕ) (rd v r : ℕ) → (r == rd) ≡ false → with_register rs rd v r ≡ rs r
+with_register_other rs rd v r other = elim (rd == reg.ZERO) as (λ b. (if b then rs r else (if r == rd then v else rs r)) ≡ rs r) [ true ↦ refl | false ↦ rw other refl ]
+
+-- a load of a whole word that is mapped
+pub load_word : (rd a v : ℕ) (m : Machine) → a % 4 ≡ 0 → m.words a ≡ Some v → action_machine (Loads Whole true a) rd m ≡ Some (machine_with m (with_register m.registers rd v) (follow m.counter))
+load_word rd a v m aligned there =
+    let base : a - 0 ≡ a = omega arith in
+    rw (aligned, base, there) refl
+
+-- a store to a whole word that is mapped
+pub store_word : (rd a v old : ℕ) (m : Machine) → a % 4 ≡ 0 → m.words a ≡ Some old
+    → action_machine (Stores Whole a v) rd m ≡ Some (record { registers = m.registers; counter = follow m.counter; words = with_word m.words a v })
+store_word rd a v old m aligned there =
+    let base : a - 0 ≡ a = omega arith in
+    rw (aligned, base, there) refl

@@ -1,0 +1,5 @@
+use Rattle.cm_syntax.proofs.machine.OneTree.{one_count}
+use Rattle.cm_syntax.proofs.law.one_count.Goals as goal
+
+pub returns : goal.returns
+returns c = one_count
