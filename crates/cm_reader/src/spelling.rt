@@ -1,11 +1,137 @@
 //! How words and signs are written, and the signs and levels of operators.
 ghost use Rattle.std.specs.Prelude.{◌≡◌};
 ghost use Rattle.cm_syntax.specs.Text as text;
+ghost use Rattle.cm_syntax.specs.Token as token;
+ghost use Rattle.cm_syntax.specs.Lexer as lexer;
 ghost use Rattle.cm_syntax.specs.ParseTree as grammar;
 ghost use Rattle.cm_syntax.specs.Yield as yield_;
 ghost use Rattle.cm_syntax.specs.Canonical as canonical;
 
 use cm_syntax::{Keyword, Op, Sign};
+
+/// All words that are no names.
+const KEYWORDS: [Keyword; 17] = [
+    Keyword::Int,
+    Keyword::Void,
+    Keyword::Cilk,
+    Keyword::Spawn,
+    Keyword::Sync,
+    Keyword::If,
+    Keyword::Else,
+    Keyword::While,
+    Keyword::For,
+    Keyword::Return,
+    Keyword::Print,
+    Keyword::Input,
+    Keyword::Inputs,
+    Keyword::Len,
+    Keyword::Split,
+    Keyword::At,
+    Keyword::As,
+];
+
+/// All signs, the longest first.
+const SIGNS: [Sign; 41] = [
+    Sign::ShiftLeftAssign,
+    Sign::ShiftRightAssign,
+    Sign::ShiftLeft,
+    Sign::ShiftRight,
+    Sign::LessEqual,
+    Sign::GreaterEqual,
+    Sign::Equal,
+    Sign::NotEqual,
+    Sign::AndAnd,
+    Sign::OrOr,
+    Sign::PlusAssign,
+    Sign::MinusAssign,
+    Sign::StarAssign,
+    Sign::SlashAssign,
+    Sign::PercentAssign,
+    Sign::AndAssign,
+    Sign::CaretAssign,
+    Sign::OrAssign,
+    Sign::PlusPlus,
+    Sign::MinusMinus,
+    Sign::Plus,
+    Sign::Minus,
+    Sign::Star,
+    Sign::Slash,
+    Sign::Percent,
+    Sign::Less,
+    Sign::Greater,
+    Sign::Assign,
+    Sign::Exclamation,
+    Sign::Tilde,
+    Sign::Ampersand,
+    Sign::Caret,
+    Sign::Bar,
+    Sign::ParenOpen,
+    Sign::ParenClose,
+    Sign::BraceOpen,
+    Sign::BraceClose,
+    Sign::BracketOpen,
+    Sign::BracketClose,
+    Sign::Comma,
+    Sign::Semicolon,
+];
+
+/// The words that are set aside.
+const RESERVED: [&[u8]; 30] = [
+    b"const",
+    b"cilk_spawn",
+    b"cilk_sync",
+    b"cilk_for",
+    b"grain",
+    b"reducer",
+    b"foreign",
+    b"extern",
+    b"break",
+    b"continue",
+    b"do",
+    b"goto",
+    b"switch",
+    b"case",
+    b"default",
+    b"struct",
+    b"union",
+    b"enum",
+    b"typedef",
+    b"static",
+    b"char",
+    b"short",
+    b"long",
+    b"unsigned",
+    b"signed",
+    b"float",
+    b"double",
+    b"sizeof",
+    b"inlet",
+    b"abort",
+];
+
+/// The word that is written so.
+pub(crate) fn keyword_written(text: &[u8]) -> Option<Keyword>
+    ensures { result ≡ lexer.keyword_written text.now }
+{
+    KEYWORDS
+        .iter()
+        .copied()
+        .find(|keyword| keyword_text(*keyword) == text)
+}
+
+/// The sign that is written so.
+pub(crate) fn sign_written(text: &[u8]) -> Option<Sign>
+    ensures { result ≡ lexer.sign_written text.now }
+{
+    SIGNS.iter().copied().find(|sign| sign_text(*sign) == text)
+}
+
+/// Whether a word is set aside.
+pub(crate) fn is_reserved(text: &[u8]) -> bool
+    ensures { result ≡ token.is_reserved text.now }
+{
+    RESERVED.iter().any(|word| *word == text)
+}
 
 /// The bytes of a word.
 pub(crate) fn keyword_text(keyword: Keyword) -> &'static [u8]

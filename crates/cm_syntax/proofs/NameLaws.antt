@@ -11,7 +11,6 @@ use Rattle.cm_syntax.specs.declared.expr.Arg.{Arg}
 use Rattle.cm_syntax.specs.declared.expr.Arg.TheVariants as argument
 use Rattle.cm_syntax.specs.declared.expr.Call.{Call, Row_of-Arg, end_of-Arg, more_of-Arg}
 use Rattle.cm_syntax.specs.declared.stmt.Slot.{Slot}
-use Rattle.cm_syntax.specs.declared.stmt.Slot.TheVariants as slot
 use Rattle.cm_syntax.specs.declared.stmt.Item.{Item}
 use Rattle.cm_syntax.specs.declared.stmt.Target.{Target}
 use Rattle.cm_syntax.specs.declared.stmt.Target.TheVariants as target

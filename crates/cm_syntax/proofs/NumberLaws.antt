@@ -5,7 +5,6 @@ use Rattle.std.specs.Prelude.{⊤, map, option_map}
 use Rattle.std.specs.List.{list_any, range_with_len}
 use Rattle.cm_syntax.specs.declared.name.Name.{Name}
 use Rattle.cm_syntax.specs.declared.expr.Mark.{Mark}
-use Rattle.cm_syntax.specs.declared.expr.Op.{Op}
 use Rattle.cm_syntax.specs.declared.expr.Expr.{Expr}
 use Rattle.cm_syntax.specs.declared.expr.Expr.TheVariants as expression
 use Rattle.cm_syntax.specs.declared.expr.Arg.{Arg}
@@ -19,7 +18,7 @@ use Rattle.cm_syntax.specs.declared.stmt.Stmt.TheVariants as statement
 use Rattle.cm_syntax.specs.declared.stmt.Function.{Function}
 use Rattle.cm_syntax.specs.Shape.{Joined, Prefixed, Element, InputAt, IfAlone, IfElse, WhileLoop, ForLoop, Binary-Joined, Unary-Prefixed, Index-Element, Input-InputAt}
 use Rattle.cm_syntax.specs.Text.{is_same}
-use Rattle.cm_syntax.specs.Resolution.{Variable, Scope, Role, lookup, inner_scope, function_scope, declare_name, declare_items, split_scope, slot_count, slots_count, reserve_slots, scope_after, statement_slots, body_slots, function_slots, ArgumentForm, value_form, slice_form, any_form, variable_form, Use, mention, call_use, redeclaration, parallel_keyword, expression_uses, arguments_uses, argument_uses, optional_uses, call_uses, target_uses, redeclaration_uses, items_uses, spawn_uses, statement_uses, statements_uses, body_uses, function_uses, variable_number, function_number, resolve_mark, resolve_bare, resolve_expression, resolve_arguments, resolve_argument, resolve_optional, resolve_call, resolve_target, resolve_items, resolve_statement, resolve_statements, resolve_body, resolve_function}
+use Rattle.cm_syntax.specs.Resolution.{Variable, Scope, Role, lookup, inner_scope, function_scope, declare_name, declare_items, split_scope, slot_count, slots_count, reserve_slots, scope_after, statement_slots, body_slots, function_slots, ArgumentForm, value_form, slice_form, any_form, variable_form, Use, mention, redeclaration, parallel_keyword, expression_uses, arguments_uses, argument_uses, optional_uses, call_uses, target_uses, redeclaration_uses, items_uses, spawn_uses, statement_uses, statements_uses, body_uses, function_uses, variable_number, function_number, resolve_mark, resolve_bare, resolve_expression, resolve_arguments, resolve_argument, resolve_optional, resolve_call, resolve_target, resolve_items, resolve_statement, resolve_statements, resolve_body, resolve_function}
 use Rattle.cm_syntax.specs.Number.{expression_numbers, arguments_numbers, argument_numbers, optional_numbers, target_numbers, destination_numbers, items_numbers, statement_numbers, statements_numbers, body_numbers, function_numbers, declared_items, declared_statement, declared_statements, declared_body, declared_numbers, use_numbers, uses_numbers}
 use Rattle.cm_syntax.proofs.StatementLaws.{If-Alone, If-Else, While-Loop, For-Loop}
 use Rattle.cm_syntax.proofs.NameLaws.{slots_counted}

@@ -18,7 +18,8 @@ use Rattle.cm_syntax.specs.Yield.{counted_token, Quantity, program_tokens, locat
 use Rattle.cm_syntax.specs.Lowering.{lower_program, lower_function}
 use Rattle.cm_syntax.specs.Row.{IsPrintedAs, HasBody, loops}
 use Rattle.cm_syntax.specs.Refusal.{BeginsProgram, Size, Refusal, IsAnswer}
-use Rattle.cm_syntax.proofs.Lexing.{lexed, lexed_tokens}
+use Rattle.cm_syntax.specs.Lexer.{lexed}
+use Rattle.cm_syntax.proofs.Lexing.{lexed_tokens}
 use Rattle.cm_syntax.proofs.ProgramLaws.{program_closes, no_word_first, name_second}
 use Rattle.cm_syntax.proofs.AnswerLaws.{answer_at_token, answer_at_end, answer_of_size}
 

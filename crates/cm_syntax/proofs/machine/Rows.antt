@@ -5,7 +5,7 @@ use Rattle.cm_syntax.specs.Lowering.{lower_program}
 use Rattle.cm_syntax.specs.Row.{loops}
 use Rattle.cm_syntax.specs.Refusal.{Refusal}
 use Rattle.cm_syntax.specs.Machine.{Answer, accepted, refused, text_answer}
-use Rattle.cm_syntax.proofs.Lexing.{lexed}
+use Rattle.cm_syntax.specs.Lexer.{lexed}
 use Rattle.cm_syntax.proofs.SourceRows.{pointer_source, grouped_source, loop_source, spawned_source, constructs_source, else_source}
 
 -- the answer to a text
