@@ -1,6 +1,7 @@
 //! How words and signs are written, and the signs and levels of operators.
 ghost use Rattle.std.specs.Prelude.{◌≡◌};
-ghost use Rattle.cm_syntax.specs.Text as text;
+ghost use Rattle.std.specs.List.{list_any, find};
+ghost use Rattle.cm_syntax.specs.Text as spelled;
 ghost use Rattle.cm_syntax.specs.Token as token;
 ghost use Rattle.cm_syntax.specs.Lexer as lexer;
 ghost use Rattle.cm_syntax.specs.ParseTree as grammar;
@@ -113,7 +114,14 @@ const RESERVED: [&[u8]; 30] = [
 pub(crate) fn keyword_written(text: &[u8]) -> Option<Keyword>
     ensures { result ≡ lexer.keyword_written text.now }
 {
-    KEYWORDS
+    keyword_among(text, &KEYWORDS)
+}
+
+/// The first of these words that is written so.
+fn keyword_among(text: &[u8], keywords: &[Keyword]) -> Option<Keyword>
+    ensures { result ≡ find (λ keyword. spelled.is_same (spelled.keyword_text keyword) text.now) keywords.now }
+{
+    keywords
         .iter()
         .copied()
         .find(|keyword| keyword_text(*keyword) == text)
@@ -123,19 +131,33 @@ pub(crate) fn keyword_written(text: &[u8]) -> Option<Keyword>
 pub(crate) fn sign_written(text: &[u8]) -> Option<Sign>
     ensures { result ≡ lexer.sign_written text.now }
 {
-    SIGNS.iter().copied().find(|sign| sign_text(*sign) == text)
+    sign_among(text, &SIGNS)
+}
+
+/// The first of these signs that is written so.
+fn sign_among(text: &[u8], signs: &[Sign]) -> Option<Sign>
+    ensures { result ≡ find (λ sign. spelled.is_same (spelled.sign_text sign) text.now) signs.now }
+{
+    signs.iter().copied().find(|sign| sign_text(*sign) == text)
 }
 
 /// Whether a word is set aside.
 pub(crate) fn is_reserved(text: &[u8]) -> bool
     ensures { result ≡ token.is_reserved text.now }
 {
-    RESERVED.iter().any(|word| *word == text)
+    is_among(text, &RESERVED)
+}
+
+/// Whether a text is one of these words.
+fn is_among(text: &[u8], words: &[&[u8]]) -> bool
+    ensures { result ≡ list_any (λ word. spelled.is_same text.now word.now) words.now }
+{
+    words.iter().any(|word| text == *word)
 }
 
 /// The bytes of a word.
 pub(crate) fn keyword_text(keyword: Keyword) -> &'static [u8]
-    ensures { result.now ≡ text.keyword_text keyword }
+    ensures { result.now ≡ spelled.keyword_text keyword }
 {
     match keyword {
         Keyword::Int => b"int",
@@ -160,7 +182,7 @@ pub(crate) fn keyword_text(keyword: Keyword) -> &'static [u8]
 
 /// The bytes of a sign.
 pub(crate) fn sign_text(sign: Sign) -> &'static [u8]
-    ensures { result.now ≡ text.sign_text sign }
+    ensures { result.now ≡ spelled.sign_text sign }
 {
     match sign {
         Sign::ShiftLeftAssign => b"<<=",
