@@ -1,5 +1,5 @@
 -- What the tokens that the code holds stand for.
-use Rattle.std.specs.Prelude.{ℕ, List, map, Option, None, Some, option_map}
+use Rattle.std.specs.Prelude.{List, map}
 use Rattle.cm_syntax.specs.Token.{Token}
 use Rattle.cm_syntax.specs.Lexer.{Next, skips, finds, fails}
 use Rattle.cm_syntax.specs.Machine.{NestedToken, capped_token}

@@ -1,9 +1,9 @@
 //! From a text to its tokens.
-ghost use Rattle.std.specs.Prelude.{◌≡◌, ◌&&◌, ◌<◌, ◌≤◌, ◌+◌, ◌-◌, [], List, ℕ, length, take, drop, map, nat_lt, if◌then◌else◌, option_map, IfOk, Some, None};
+ghost use Rattle.std.specs.Prelude.{◌≡◌, ◌&&◌, ◌<◌, ◌+◌, ◌-◌, List as ListOf, ℕ, length, take, drop, map, nat_lt, if◌then◌else◌, option_map, IfOk, Some, None};
 ghost use Rattle.cm_syntax.specs.Text as spelled;
 ghost use Rattle.std.specs.Str.Parse.{digits_value};
 ghost use Rattle.cm_syntax.specs.Token.{Token, LocatedToken, Tokens};
-ghost use Rattle.cm_syntax.specs.Limit.{max_open_brackets};
+ghost use Rattle.cm_syntax.specs.Limit.{max_open_brackets, max_source_bytes};
 ghost use Rattle.cm_syntax.specs.Lexer as lexer;
 ghost use Rattle.cm_syntax.specs.Refusal as refusal;
 ghost use Rattle.cm_syntax.specs.Machine.{capped, capped_token, nested_tokens, readable};
@@ -19,6 +19,12 @@ use cm_syntax::{Name, Sign};
 use cm_text::{List, Memory};
 use std::alloc::Global;
 
+/// The bytes of a source, at most.
+const MAX_SOURCE_BYTES: usize = 65_536;
+
+/// The `(` and `[` that are open at once in a statement, at most.
+const MAX_OPEN_BRACKETS: u32 = 64;
+
 /// What stands at the front of a text.
 #[derive(Debug, Drop)]
 pub(crate) enum Found {
@@ -28,6 +34,43 @@ pub(crate) enum Found {
     Finds(Kind, usize),
     /// A byte that begins nothing.
     Fails,
+}
+
+/// The tokens of a source text, up to the first byte that begins no token or the first token that stands beyond the
+/// limit of a source, 65,536 bytes. `Memory` is want of memory.
+pub(crate) fn tokens(alloc: Global, source: &[u8]) -> Result<List<Located>, Memory>
+    ensures { (all : ListOf LocatedToken) → Tokens 0 source.now all → IfOk result (λ list. nested_list list ≡ nested_tokens 0 0 (readable (map capped all))) }
+{
+    let mut list = List::new(alloc);
+    let mut brackets = Brackets {
+        opened: 0,
+        closed: 0,
+    };
+    let end = source.len().min(MAX_SOURCE_BYTES);
+    let mut at = 0;
+    while at < end {
+        match front(alloc, &source[at..])? {
+            Found::Skips(bytes) => at += bytes,
+            Found::Finds(kind, bytes) => {
+                let nested = brackets.count(&kind);
+                list.push(Located {
+                    kind,
+                    at: at as u32,
+                    nested,
+                })?;
+                at += bytes;
+            }
+            Found::Fails => {
+                list.push(Located {
+                    kind: Kind::Unfit,
+                    at: at as u32,
+                    nested: false,
+                })?;
+                return Ok(list);
+            }
+        }
+    }
+    Ok(list)
 }
 
 /// What stands at the front of a text that isn't empty.
@@ -48,6 +91,61 @@ fn front(alloc: Global, bytes: &[u8]) -> Result<Found, Memory>
         return run(alloc, bytes);
     }
     Ok(sign(bytes))
+}
+
+/// How many brackets stand before a token.
+#[derive(Clone, Copy, Debug)]
+struct Brackets {
+    /// Those that are `(` or `[`.
+    opened: u32,
+    /// Those that are `)` or `]`.
+    closed: u32,
+}
+
+impl Brackets {
+    /// Counts a token, and says whether it opens one bracket more than may be open at once.
+    fn count(&mut self, kind: &Kind) -> bool
+        requires opened { self.old.opened < max_source_bytes }
+        requires closed { self.old.closed < max_source_bytes }
+        ensures nested { result ≡ (refusal.is_opening (token_of kind.now) && nat_lt max_open_brackets (self.old.opened + 1 - self.old.closed)) }
+        ensures opened { self.new.opened ≡ if refusal.is_opening (token_of kind.now) then self.old.opened + 1 else self.old.opened }
+        ensures closed { self.new.closed ≡ if refusal.is_closing (token_of kind.now) then self.old.closed + 1 else self.old.closed }
+    {
+        if is_closing(kind) {
+            self.closed += 1;
+        }
+        if !is_opening(kind) {
+            return false;
+        }
+        self.opened += 1;
+        self.opened > self.closed + MAX_OPEN_BRACKETS
+    }
+}
+
+/// Whether a token is `(` or `[`.
+fn is_opening(kind: &Kind) -> bool
+    ensures { result ≡ refusal.is_opening (token_of kind.now) }
+{
+    match kind {
+        Kind::Sign(sign) => match sign {
+            Sign::ParenOpen | Sign::BracketOpen => true,
+            _ => false,
+        },
+        _ => false,
+    }
+}
+
+/// Whether a token is `)` or `]`.
+fn is_closing(kind: &Kind) -> bool
+    ensures { result ≡ refusal.is_closing (token_of kind.now) }
+{
+    match kind {
+        Kind::Sign(sign) => match sign {
+            Sign::ParenClose | Sign::BracketClose => true,
+            _ => false,
+        },
+        _ => false,
+    }
 }
 
 /// A block comment, or nothing where it has no end.

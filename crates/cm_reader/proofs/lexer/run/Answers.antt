@@ -1,4 +1,4 @@
-use Rattle.std.proofs.Common.{length, sym, ap, ◌∙◌, arith, length-take}
+use Rattle.std.proofs.Common.{sym, ap, ◌∙◌, arith, length-take}
 use Rattle.std.specs.Prelude.{option_map}
 use Rattle.cm_syntax.specs.Text.{is_word_byte}
 use Rattle.cm_syntax.specs.Lexer.{front, run_next, run_token}
