@@ -1,7 +1,7 @@
 -- What stands at the front of a text, as the code finds it.
 use Rattle.std.proofs.Common.{◌≡◌, ℕ, zero, suc, ◌+◌, ◌-◌, ◌<◌, ◌≤◌, Bool, true, false, ◌&&◌, List, [], ◌∷◌, ◌++◌, length, take, drop, length-append, length-drop, append_assoc, min, inl, inr, refl, sym, ap, ◌∙◌, subst, arith}
 use Rattle.std.specs.Prelude.{if◌then◌else◌, nat_lt, map, Option, Some, None, option_map}
-use Rattle.std.proofs.lemmas.List.{take_at, drop-drop, at_drop_all, map-append}
+use Rattle.std.proofs.lemmas.List.{take_at, drop-drop, at_drop_all}
 use Rattle.std.proofs.lemmas.Bool.{cases_lt}
 use Rattle.std.proofs.lemmas.Bool.Decides.{nat_tests}
 use Rattle.cm_syntax.specs.declared.token.Sign.{Sign}
@@ -10,13 +10,15 @@ use Rattle.cm_syntax.specs.Text.{is_space, is_word_byte}
 use Rattle.cm_syntax.specs.Token.{Token, LocatedToken, token_at, begins, Tokens}
 use Rattle.cm_syntax.specs.Lexer.{front, behind, opens_line, opens_block, has_end, Next, next, skips, finds, fails, line_length, block_length, run_next, run_token, sign_next, sign_there, followed, lexed}
 use Rattle.cm_syntax.specs.Refusal.{is_opening, is_closing}
-use Rattle.cm_syntax.specs.Machine.{capped_token, capped, readable, NestedToken, nested_tokens}
+use Rattle.cm_syntax.specs.Machine.{capped_token, capped, readable, NestedToken, nested_tokens, run, start, text_answer}
+use Rattle.cm_syntax.proofs.machine.NumberCap.{capped_text}
 use Rattle.cm_syntax.proofs.TokenLaws.{Tokens-one}
 use Rattle.cm_syntax.proofs.Lexing.{front-behind, lexed_front, lexed_tokens, IsSized, next_sized}
-use Rattle.cm_reader.specs.declared.token.Kind.{Kind}
-use Rattle.cm_reader.specs.declared.token.Kind.TheVariants as kind
-use Rattle.cm_reader.specs.declared.token.Located.{Located}
-use Rattle.cm_reader.specs.Located.{token_of, nested_token, nested_list, capped_next}
+use Rattle.cm_reader.specs.declared.token.Token.{Token as HeldToken}
+use Rattle.cm_reader.specs.declared.token.Token.TheVariants as held
+use Rattle.cm_reader.specs.declared.token.LocatedToken.{LocatedToken as HeldLocatedToken}
+use Rattle.cm_reader.specs.Next.{token_of, nested_of, nested}
+use Rattle.cm_reader.specs.Found.{capped_next}
 
 pub front_within : (test : ℕ → Bool) (bytes : List ℕ) → length (front test bytes) ≤ length bytes
 front_within test bytes = omega (arith, ap length (front-behind test bytes), length-append (front test bytes) (behind test bytes))
@@ -136,25 +138,29 @@ left_none bytes at end is le = elim (cases_lt at (length bytes)) [ inl some ↦ 
 
 -- ---- the tokens that were found
 
+nested-append : (xs ys : List HeldLocatedToken) → nested (xs ++ ys) ≡ nested xs ++ nested ys
+nested-append [] ys = refl
+nested-append (x ∷ xs) ys = ap (λ ts. nested_of x ∷ ts) (nested-append xs ys)
+
 -- one token more
-pub found_more : (list new : List Located) (kind : Kind) (at : ℕ) (nested : Bool) (o c p d : ℕ) (left rest : List LocatedToken) (whole : List NestedToken) →
-    new ≡ list ++ record { kind = kind; at = at; nested = nested } ∷ [] →
-    nested ≡ (is_opening (token_of kind) && nat_lt max_open_brackets (o + 1 - c)) →
-    p ≡ (if is_opening (token_of kind) then o + 1 else o) → d ≡ (if is_closing (token_of kind) then c + 1 else c) →
-    left ≡ token_at (token_of kind) at ∷ rest → nested_list list ++ nested_tokens o c left ≡ whole → nested_list new ++ nested_tokens p d rest ≡ whole
-found_more list new kind at nested o c p d left rest whole is nested_is p_is d_is left_is all =
+pub found_more : (list new : List HeldLocatedToken) (token : HeldToken) (at : ℕ) (too_nested : Bool) (o c p d : ℕ) (left rest : List LocatedToken) (whole : List NestedToken) →
+    new ≡ list ++ record { token = token; at = at; too_nested = too_nested } ∷ [] →
+    too_nested ≡ (is_opening (token_of token) && nat_lt max_open_brackets (o + 1 - c)) →
+    p ≡ (if is_opening (token_of token) then o + 1 else o) → d ≡ (if is_closing (token_of token) then c + 1 else c) →
+    left ≡ token_at (token_of token) at ∷ rest → nested list ++ nested_tokens o c left ≡ whole → nested new ++ nested_tokens p d rest ≡ whole
+found_more list new token at too_nested o c p d left rest whole is nested_is p_is d_is left_is all =
     rw (is, p_is, d_is, nested_is) (
-    ap (λ ts. ts ++ nested_tokens (if is_opening (token_of kind) then o + 1 else o) (if is_closing (token_of kind) then c + 1 else c) rest)
-    (map-append nested_token list (record { kind = kind; at = at; nested = is_opening (token_of kind) && nat_lt max_open_brackets (o + 1 - c) } ∷ [])) ∙
-    (append_assoc (nested_list list) _ _ ∙ (sym (ap (λ ts. nested_list list ++ nested_tokens o c ts) left_is) ∙ all)))
+    ap (λ ts. ts ++ nested_tokens (if is_opening (token_of token) then o + 1 else o) (if is_closing (token_of token) then c + 1 else c) rest)
+    (nested-append list (record { token = token; at = at; too_nested = is_opening (token_of token) && nat_lt max_open_brackets (o + 1 - c) } ∷ [])) ∙
+    (append_assoc (nested list) _ _ ∙ (sym (ap (λ ts. nested list ++ nested_tokens o c ts) left_is) ∙ all)))
 
 -- the last token, a byte that begins nothing
-pub found_last : (list new : List Located) (at o c : ℕ) (left : List LocatedToken) (whole : List NestedToken) →
-    new ≡ list ++ record { kind = kind.Unfit; at = at; nested = false } ∷ [] → left ≡ token_at Token.unfit at ∷ [] →
-    nested_list list ++ nested_tokens o c left ≡ whole → nested_list new ≡ whole
+pub found_last : (list new : List HeldLocatedToken) (at o c : ℕ) (left : List LocatedToken) (whole : List NestedToken) →
+    new ≡ list ++ record { token = held.Unfit; at = at; too_nested = false } ∷ [] → left ≡ token_at Token.unfit at ∷ [] →
+    nested list ++ nested_tokens o c left ≡ whole → nested new ≡ whole
 found_last list new at o c left whole is left_is all =
-    ap nested_list is ∙ (map-append nested_token list (record { kind = kind.Unfit; at = at; nested = false } ∷ []) ∙
-    (sym (ap (λ ts. nested_list list ++ nested_tokens o c ts) left_is) ∙ all))
+    ap nested is ∙ (nested-append list (record { token = held.Unfit; at = at; too_nested = false } ∷ []) ∙
+    (sym (ap (λ ts. nested list ++ nested_tokens o c ts) left_is) ∙ all))
 
 -- a count that is at most the offset stays so
 pub grown : (b : Bool) (count new at n : ℕ) → new ≡ (if b then count + 1 else count) → count ≤ at → 0 < n → new ≤ at + n
@@ -165,3 +171,8 @@ grown false count new at n is le more = omega arith
 pub found_all : (bytes : List ℕ) (all : List LocatedToken) (list : List NestedToken) → Tokens 0 bytes all → list ≡ nested_tokens 0 0 (tokens_left bytes 0) →
     list ≡ nested_tokens 0 0 (readable (map capped all))
 found_all bytes all list h is = is ∙ ap (λ tokens. nested_tokens 0 0 (readable (map capped tokens))) (Tokens-one (lexed_tokens (length bytes) 0 bytes (omega arith)) h)
+
+-- the machine answers to the tokens that were found as to the text
+pub tokens_answer : (all : List LocatedToken) (list : List NestedToken) (size : ℕ) → list ≡ nested_tokens 0 0 (readable (map capped all)) →
+    run size start list ≡ text_answer all size
+tokens_answer all list size is = ap (run size start) is ∙ capped_text all size

@@ -2,25 +2,26 @@
 ghost use Rattle.std.specs.Prelude.{◌≡◌, ◌&&◌, ◌<◌, ◌+◌, ◌-◌, List as ListOf, ℕ, length, take, drop, map, nat_lt, if◌then◌else◌, option_map, IfOk, Some, None};
 ghost use Rattle.cm_syntax.specs.Text as spelled;
 ghost use Rattle.std.specs.Str.Parse.{digits_value};
-ghost use Rattle.cm_syntax.specs.Token.{Token, LocatedToken, Tokens};
+ghost use Rattle.cm_syntax.specs.Token as language;
 ghost use Rattle.cm_syntax.specs.Limit.{max_open_brackets, max_source_bytes};
 ghost use Rattle.cm_syntax.specs.Lexer as lexer;
 ghost use Rattle.cm_syntax.specs.Refusal as refusal;
 ghost use Rattle.cm_syntax.specs.Machine.{capped, capped_token, nested_tokens, readable};
-ghost use Rattle.cm_reader.specs.Located.{token_of, nested_list, next_of, capped_next};
+ghost use Rattle.cm_reader.specs.Next.{token_of, nested};
+ghost use Rattle.cm_reader.specs.Found.{next_of, capped_next};
 
 use crate::scan::{
     begins_letter, begins_space, begins_word, block_length, digits_value, is_number, is_pair,
     line_length, run_length,
 };
 use crate::spelling::{is_reserved, keyword_written, sign_text, sign_written};
-use crate::token::{Kind, Located};
+use crate::token::{LocatedToken, Token};
 use cm_syntax::{Name, Sign};
 use cm_text::{List, Memory};
 use std::alloc::Global;
 
 /// The bytes of a source, at most.
-const MAX_SOURCE_BYTES: usize = 65_536;
+const MAX_SOURCE_BYTES: u32 = 65_536;
 
 /// The `(` and `[` that are open at once in a statement, at most.
 const MAX_OPEN_BRACKETS: u32 = 64;
@@ -31,46 +32,47 @@ pub(crate) enum Found {
     /// So many bytes of white space or of a comment.
     Skips(usize),
     /// A token of so many bytes.
-    Finds(Kind, usize),
+    Finds(Token, usize),
     /// A byte that begins nothing.
     Fails,
 }
 
 /// The tokens of a source text, up to the first byte that begins no token or the first token that stands beyond the
 /// limit of a source, 65,536 bytes. `Memory` is want of memory.
-pub(crate) fn tokens(alloc: Global, source: &[u8]) -> Result<List<Located>, Memory>
-    ensures { (all : ListOf LocatedToken) → Tokens 0 source.now all → IfOk result (λ list. nested_list list ≡ nested_tokens 0 0 (readable (map capped all))) }
+pub(crate) fn tokens(alloc: Global, source: &[u8]) -> Result<List<LocatedToken>, Memory>
+    ensures { (all : ListOf language.LocatedToken) → language.Tokens 0 source.now all
+        → IfOk result (λ tokens. nested tokens ≡ nested_tokens 0 0 (readable (map capped all))) }
 {
-    let mut list = List::new(alloc);
+    let mut tokens = List::new(alloc);
     let mut brackets = Brackets {
         opened: 0,
         closed: 0,
     };
-    let end = source.len().min(MAX_SOURCE_BYTES);
+    let end = source.len().min(MAX_SOURCE_BYTES as usize);
     let mut at = 0;
     while at < end {
         match front(alloc, &source[at..])? {
             Found::Skips(bytes) => at += bytes,
-            Found::Finds(kind, bytes) => {
-                let nested = brackets.count(&kind);
-                list.push(Located {
-                    kind,
+            Found::Finds(token, bytes) => {
+                let too_nested = brackets.count(&token);
+                tokens.push(LocatedToken {
+                    token,
                     at: at as u32,
-                    nested,
+                    too_nested,
                 })?;
                 at += bytes;
             }
             Found::Fails => {
-                list.push(Located {
-                    kind: Kind::Unfit,
+                tokens.push(LocatedToken {
+                    token: Token::Unfit,
                     at: at as u32,
-                    nested: false,
+                    too_nested: false,
                 })?;
-                return Ok(list);
+                return Ok(tokens);
             }
         }
     }
-    Ok(list)
+    Ok(tokens)
 }
 
 /// What stands at the front of a text that isn't empty.
@@ -104,17 +106,17 @@ struct Brackets {
 
 impl Brackets {
     /// Counts a token, and says whether it opens one bracket more than may be open at once.
-    fn count(&mut self, kind: &Kind) -> bool
+    fn count(&mut self, token: &Token) -> bool
         requires opened { self.old.opened < max_source_bytes }
         requires closed { self.old.closed < max_source_bytes }
-        ensures nested { result ≡ (refusal.is_opening (token_of kind.now) && nat_lt max_open_brackets (self.old.opened + 1 - self.old.closed)) }
-        ensures opened { self.new.opened ≡ if refusal.is_opening (token_of kind.now) then self.old.opened + 1 else self.old.opened }
-        ensures closed { self.new.closed ≡ if refusal.is_closing (token_of kind.now) then self.old.closed + 1 else self.old.closed }
+        ensures nested { result ≡ (refusal.is_opening (token_of token.now) && nat_lt max_open_brackets (self.old.opened + 1 - self.old.closed)) }
+        ensures opened { self.new.opened ≡ if refusal.is_opening (token_of token.now) then self.old.opened + 1 else self.old.opened }
+        ensures closed { self.new.closed ≡ if refusal.is_closing (token_of token.now) then self.old.closed + 1 else self.old.closed }
     {
-        if is_closing(kind) {
+        if is_closing(token) {
             self.closed += 1;
         }
-        if !is_opening(kind) {
+        if !is_opening(token) {
             return false;
         }
         self.opened += 1;
@@ -123,11 +125,11 @@ impl Brackets {
 }
 
 /// Whether a token is `(` or `[`.
-fn is_opening(kind: &Kind) -> bool
-    ensures { result ≡ refusal.is_opening (token_of kind.now) }
+fn is_opening(token: &Token) -> bool
+    ensures { result ≡ refusal.is_opening (token_of token.now) }
 {
-    match kind {
-        Kind::Sign(sign) => match sign {
+    match token {
+        Token::Sign(sign) => match sign {
             Sign::ParenOpen | Sign::BracketOpen => true,
             _ => false,
         },
@@ -136,11 +138,11 @@ fn is_opening(kind: &Kind) -> bool
 }
 
 /// Whether a token is `)` or `]`.
-fn is_closing(kind: &Kind) -> bool
-    ensures { result ≡ refusal.is_closing (token_of kind.now) }
+fn is_closing(token: &Token) -> bool
+    ensures { result ≡ refusal.is_closing (token_of token.now) }
 {
-    match kind {
-        Kind::Sign(sign) => match sign {
+    match token {
+        Token::Sign(sign) => match sign {
             Sign::ParenClose | Sign::BracketClose => true,
             _ => false,
         },
@@ -164,35 +166,35 @@ fn run(alloc: Global, bytes: &[u8]) -> Result<Found, Memory>
         (lexer.run_token (lexer.front spelled.is_word_byte bytes.now)) (length (lexer.front spelled.is_word_byte bytes.now)))) }
 {
     let length = run_length(bytes);
-    match run_kind(alloc, &bytes[..length])? {
-        Some(kind) => Ok(Found::Finds(kind, length)),
+    match run_token(alloc, &bytes[..length])? {
+        Some(token) => Ok(Found::Finds(token, length)),
         None => Ok(Found::Fails),
     }
 }
 
 /// What a run of letters, digits and `_` is, where it is a token.
-fn run_kind(alloc: Global, text: &[u8]) -> Result<Option<Kind>, Memory>
-    ensures { IfOk result (λ kind. option_map token_of kind ≡ option_map capped_token (lexer.run_token text.now)) }
+fn run_token(alloc: Global, text: &[u8]) -> Result<Option<Token>, Memory>
+    ensures { IfOk result (λ token. option_map token_of token ≡ option_map capped_token (lexer.run_token text.now)) }
 {
     if let Some(keyword) = keyword_written(text) {
-        return Ok(Some(Kind::Keyword(keyword)));
+        return Ok(Some(Token::Keyword(keyword)));
     }
     if !begins_letter(text) {
         return Ok(number(text));
     }
     if is_reserved(text) {
-        return Ok(Some(Kind::Unfit));
+        return Ok(Some(Token::Unfit));
     }
     let name = Name::of(alloc, text)?;
-    Ok(Some(Kind::Name(name)))
+    Ok(Some(Token::Name(name)))
 }
 
 /// A number, where the text is one.
-fn number(text: &[u8]) -> Option<Kind>
-    ensures { option_map token_of result ≡ option_map capped_token (if lexer.is_number text.now then Some (Token.number (digits_value 10 text.now)) else None) }
+fn number(text: &[u8]) -> Option<Token>
+    ensures { option_map token_of result ≡ option_map capped_token (if lexer.is_number text.now then Some (language.Token.number (digits_value 10 text.now)) else None) }
 {
     if is_number(text) {
-        Some(Kind::Number(digits_value(text)))
+        Some(Token::Number(digits_value(text)))
     } else {
         None
     }
@@ -203,7 +205,7 @@ fn sign(bytes: &[u8]) -> Found
     ensures { next_of result ≡ lexer.sign_next (lexer.sign_there bytes.now) }
 {
     match sign_there(bytes) {
-        Some(sign) => Found::Finds(Kind::Sign(sign), sign_text(sign).len()),
+        Some(sign) => Found::Finds(Token::Sign(sign), sign_text(sign).len()),
         None => Found::Fails,
     }
 }

@@ -10,3 +10,6 @@ mod token;
 
 pub use printer::write;
 pub use refusal::ReadRefusal;
+
+#[cfg(test)]
+mod tests;

@@ -5,6 +5,7 @@
 ghost use Rattle.std.specs.Prelude.{◌≡◌, ◌+◌, ◌++◌, ◌∷◌, [], ℕ, true, nat_lt, ◌==◌, ◌↔◌, IsTrue, if◌then◌else◌, pos, IfOk, OnOk};
 ghost use Rattle.std.specs.Fmt.{decimal};
 ghost use Rattle.cm_syntax.specs.Token.{Token};
+ghost use Rattle.cm_syntax.specs.Refusal.{IsSoundTree};
 ghost use Rattle.cm_syntax.specs.Canonical as canonical;
 ghost use Rattle.cm_syntax.specs.Canonical.{word_token, sign_token, name_token, literal_token};
 ghost use Rattle.cm_syntax.specs.declared.expr.Expr.TheVariants as expressions;
@@ -12,6 +13,7 @@ ghost use Rattle.cm_syntax.specs.declared.stmt.Target.TheVariants as targets;
 ghost use Rattle.cm_syntax.specs.declared.stmt.Stmt.TheVariants as statements;
 ghost use Rattle.cm_syntax.specs.declared.token.Keyword.TheVariants as keywords;
 ghost use Rattle.cm_syntax.specs.declared.token.Sign.TheVariants as signs;
+ghost use Rattle.cm_reader.specs.ReadBack.{ReadsBack};
 ghost use Rattle.cm_reader.specs.Spaced.{spaced, comma, block, head, turns, parts};
 
 use crate::spelling::{assign_sign, keyword_text, level_of, sign_of, sign_text};
@@ -25,11 +27,11 @@ use std::alloc::Global;
 /// literal 0 is written `* p`, a slice parameter `int a [ ]`, an update with its operator, and parentheses stand only
 /// where the levels of the operators need them. `Memory` is want of memory.
 ///
-/// It takes time and memory in proportion to the text. It calls itself as deep as expressions and statements are
-/// nested in the tree, which the limits of a source keep low.
-// Once a text can be read here, its tree read back is a clause: `canonical_source` (cm_syntax) has it for definitions.
+/// The text of a sound tree reads back as the same tree, in all but the offsets and the length. The call takes time in
+/// proportion to the text, and calls itself as deep as expressions and statements are nested in the tree.
 pub fn write(alloc: Global, tree: &Tree) -> Result<Bytes, Memory>
-    ensures { IfOk result (λ text. text ≡ canonical.canonical tree.now) }
+    ensures text { IfOk result (λ text. text ≡ canonical.canonical tree.now) }
+    ensures again { IsSoundTree tree.now → IfOk result (λ text. ReadsBack text tree.now) }
 {
     let mut text = Bytes::new(alloc);
     put_functions(&mut text, tree.functions.items())?;
