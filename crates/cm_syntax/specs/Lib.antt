@@ -5,6 +5,7 @@ pub mod Expr
 pub mod Frame
 pub mod Text
 pub mod Token
+pub mod Lexer
 pub mod ParseTree
 pub mod Yield
 pub mod Lowering

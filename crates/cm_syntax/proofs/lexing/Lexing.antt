@@ -2,7 +2,7 @@
 use Rattle.std.proofs.Common.{◌≡◌, ◌≢◌, ℕ, zero, suc, ◌+◌, ◌<◌, ◌≤◌, Bool, true, false, ◌&&◌, ◌||◌, List, [], ◌∷◌, ◌++◌, length, get_or, take, drop, refl, sym, ap, ◌∙◌, subst, arith, Option, None, Some, inl, inr, not, if◌then◌else◌, append_assoc, length-append, cond}
 use Rattle.std.proofs.lemmas.List.{take_at, drop_at, take-append-drop}
 use Rattle.std.proofs.Common.{length-take, length-drop}
-use Rattle.std.specs.Prelude.{◌==◌, slice_index, codes}
+use Rattle.std.specs.Prelude.{◌==◌, ⊤, slice_index, codes}
 use Rattle.std.specs.List.{list_all, find}
 use Rattle.std.specs.Char.{is_ascii_digit}
 use Rattle.std.specs.Str.Parse.{digits_value}
@@ -12,18 +12,11 @@ use Rattle.cm_syntax.specs.declared.token.Keyword.{Keyword}
 use Rattle.cm_syntax.specs.declared.token.Sign.{Sign}
 use Rattle.cm_syntax.specs.Text.{is_space, is_letter, is_word_byte, is_same, keyword_text, sign_text}
 use Rattle.cm_syntax.specs.Token.{Token, LocatedToken, DoesNotBegin, begins, is_reserved, IsNumber, Spells, IsApart, IsComment, OpensComment, IsFirstToken, IsFaulty, Tokens}
-use Rattle.cm_syntax.proofs.lexing.Spelling.{all_keywords, all_signs, keyword_written, keyword_written-text, keyword_begins, reserved_begins, sign_written, sign_written-text, sign_short, sign_begins, is_same-equal}
-use Rattle.cm_syntax.proofs.lexing.TokenLaw.{word_or_sign, token_some, digits_in_word, comment_opens, dropped}
+use Rattle.cm_syntax.specs.Lexer.{all_keywords, all_signs, keyword_written, sign_written, front, behind, is_number, run_by, run_token, first_of_two, sign_there, in_line, opens_line, opens_block, closes, has_end, before_end, behind_end, Next, skips, finds, fails, run_next, sign_next, line_length, block_length, next, followed, lexed}
+use Rattle.cm_syntax.proofs.lexing.Spelling.{keyword_written-text, keyword_begins, reserved_begins, sign_written-text, sign_short, sign_begins, is_same-equal}
+use Rattle.cm_syntax.proofs.lexing.TokenLaw.{Tokens-one, word_or_sign, token_some, digits_in_word, comment_opens, dropped}
 
 -- ---- the bytes at the front that pass a test, and the others
-
-abbrev pub front : (ℕ → Bool) → List ℕ → List ℕ
-front test [] = []
-front test (b ∷ bytes) = if test b then b ∷ front test bytes else []
-
-abbrev pub behind : (ℕ → Bool) → List ℕ → List ℕ
-behind test [] = []
-behind test (b ∷ bytes) = if test b then behind test bytes else b ∷ bytes
 
 pub front-behind : (test : ℕ → Bool) (bytes : List ℕ) → bytes ≡ front test bytes ++ behind test bytes
 front-behind test [] = refl
@@ -97,22 +90,6 @@ sign_none : (text : List ℕ) (s : Sign) → sign_written text ≡ None → text
 sign_none text s e same = let found : None ≡ Some s = sym e ∙ (ap sign_written same ∙ sign_written-text s) in cc
 
 -- ---- a run of letters, digits and `_`
-
-abbrev pub is_number : List ℕ → Bool
-is_number text = list_all is_ascii_digit text && (not (slice_index text 0 == 48) || length text == 1)
-
-abbrev pub run_without_keyword : List ℕ → Option Token
-run_without_keyword text =
-    if begins is_letter text then (if is_reserved text then Some Token.unfit else Some (Token.name text))
-    else (if is_number text then Some (Token.number (digits_value 10 text)) else None)
-
-abbrev pub run_by : Option Keyword → List ℕ → Option Token
-run_by (Some k) text = Some (Token.keyword k)
-run_by None text = run_without_keyword text
-
--- the token of a run, where it is one
-abbrev pub run_token : List ℕ → Option Token
-run_token text = run_by (keyword_written text) text
 
 no_letter : (b : ℕ) → is_word_byte b ≡ true → is_letter b ≡ false → is_ascii_digit b ≡ true
 no_letter b h l = ap (λ t. t || is_ascii_digit b) (sym l) ∙ h
@@ -255,14 +232,6 @@ run_no_token bytes b e t text rest h = by_token t h.spelled h.apart
 
 -- ---- signs
 
-abbrev pub first_of_two : Option Sign → Option Sign → Option Sign
-first_of_two (Some s) other = Some s
-first_of_two None other = other
-
--- the longest sign at the front
-abbrev pub sign_there : List ℕ → Option Sign
-sign_there bytes = first_of_two (sign_written (take 3 bytes)) (first_of_two (sign_written (take 2 bytes)) (sign_written (take 1 bytes)))
-
 -- a sign's text at the front is what is taken by its length
 taken : (bytes longer less : List ℕ) (k : ℕ) → bytes ≡ longer ++ less → length longer ≡ k → take k bytes ≡ longer
 taken bytes longer less k parts len = ap (take k) parts ∙ take_at longer less k len
@@ -362,39 +331,6 @@ module _ (bytes : List ℕ) (other_first : begins is_word_byte bytes ≡ false) 
 
 -- ---- comments
 
--- a byte that is no line feed
-abbrev pub in_line : ℕ → Bool
-in_line byte = not (byte == 10)
-
-abbrev pub opens_line : List ℕ → Bool
-opens_line [] = false
-opens_line (a ∷ []) = false
-opens_line (a ∷ b ∷ bytes) = a == 47 && b == 47
-
-abbrev pub opens_block : List ℕ → Bool
-opens_block [] = false
-opens_block (a ∷ []) = false
-opens_block (a ∷ b ∷ bytes) = a == 47 && b == 42
-
--- the end of a block comment stands at the front
-abbrev pub closes : List ℕ → Bool
-closes [] = false
-closes (a ∷ []) = false
-closes (a ∷ b ∷ bytes) = a == 42 && b == 47
-
-abbrev pub has_end : List ℕ → Bool
-has_end [] = false
-has_end (b ∷ bytes) = closes (b ∷ bytes) || has_end bytes
-
--- what stands before the first end
-abbrev pub before_end : List ℕ → List ℕ
-before_end [] = []
-before_end (b ∷ bytes) = if closes (b ∷ bytes) then [] else b ∷ before_end bytes
-
-abbrev pub behind_end : List ℕ → List ℕ
-behind_end [] = []
-behind_end (b ∷ bytes) = if closes (b ∷ bytes) then drop 2 (b ∷ bytes) else behind_end bytes
-
 no_opening : (bytes : List ℕ) → opens_line bytes ≡ false → opens_block bytes ≡ false → OpensComment bytes → ⊥
 no_opening bytes l b (rest, inl e) = true≢false (sym (ap opens_line e) ∙ l)
 no_opening bytes l b (rest, inr e) = true≢false (sym (ap opens_block e) ∙ b)
@@ -471,50 +407,23 @@ unclosed bytes l b e text rest parts (inr h) =
 
 -- ---- what stands next
 
--- so many bytes of white space or of a comment; a token of so many bytes; or a byte that begins nothing
-pub data Next : Type 0 where
-  skips : ℕ → Next
-  finds : Token → ℕ → Next
-  fails : Next
-
-abbrev pub run_next : Option Token → ℕ → Next
-run_next (Some t) n = finds t n
-run_next None n = fails
-
-abbrev pub sign_next : Option Sign → Next
-sign_next (Some s) = finds (Token.sign s) (length (sign_text s))
-sign_next None = fails
-
-abbrev pub line_length : List ℕ → ℕ
-line_length bytes = 2 + length (front in_line (drop 2 bytes))
-
-abbrev pub block_length : List ℕ → ℕ
-block_length bytes = 2 + (length (before_end (drop 2 bytes)) + 2)
-
-abbrev pub next : List ℕ → Next
-next bytes =
-    if begins is_space bytes then skips 1
-    else (if opens_line bytes then skips (line_length bytes)
-    else (if opens_block bytes then (if has_end (drop 2 bytes) then skips (block_length bytes) else fails)
-    else (if begins is_word_byte bytes then run_next (run_token (front is_word_byte bytes)) (length (front is_word_byte bytes))
-    else sign_next (sign_there bytes))))
-
 -- The bytes begin so.
 IsNext : List ℕ → Next → Type 0
-IsNext bytes (skips n) = (0 < n) × ((at : ℕ) (tokens : List LocatedToken) → Tokens (at + n) (drop n bytes) tokens → Tokens at bytes tokens)
+IsNext bytes (skips n) = (0 < n) × (n ≤ length bytes) × ((at : ℕ) (tokens : List LocatedToken) → Tokens (at + n) (drop n bytes) tokens → Tokens at bytes tokens)
 IsNext bytes (finds t n) = (text : List ℕ) × (length text ≡ n) × IsFirstToken bytes t text (drop n bytes)
 IsNext bytes fails = IsFaulty bytes
 
 skips_space : (bytes : List ℕ) → begins is_space bytes ≡ true → IsNext bytes (skips 1)
 unfolding IsNext
 skips_space [] h = absurd (true≢false (sym h))
-skips_space (b ∷ bytes) h = (omega arith, λ at tokens more. Tokens.space h more)
+skips_space (b ∷ bytes) h = (omega arith, omega arith, λ at tokens more. Tokens.space h more)
 
 -- a comment of these bytes
 skips_comment : (bytes text rest : List ℕ) (n : ℕ) → 0 < n → bytes ≡ text ++ rest → length text ≡ n → IsComment text rest → IsNext bytes (skips n)
 unfolding IsNext
 skips_comment bytes text rest n some parts len h = (
   some,
+  omega (arith, ap length parts, length-append text rest),
   λ at tokens more. Tokens.comment parts h
       (subst (λ r. Tokens (at + length text) r tokens) (ap (drop n) parts ∙ drop_at text rest n len) (subst (λ k. Tokens (at + k) (drop n bytes) tokens) (sym len) more)),
 )
@@ -621,24 +530,12 @@ next_stands bytes some = by_space (begins is_space bytes) refl
 
 -- ---- the whole list
 
--- what stands next, and the tokens behind so many bytes
-abbrev pub followed : Next → (at : ℕ) → (ℕ → List LocatedToken) → List LocatedToken
-followed (skips n) at more = more n
-followed (finds t n) at more = record { token = t; at = at } ∷ more n
-followed fails at more = record { token = Token.unfit; at = at } ∷ []
-
--- the tokens of the bytes from this offset on, in at most so many steps
-abbrev pub lexed : (steps at : ℕ) → List ℕ → List LocatedToken
-lexed zero at bytes = []
-lexed (suc steps) at [] = []
-lexed (suc steps) at (b ∷ bytes) = followed (next (b ∷ bytes)) at (λ n. lexed steps (at + n) (drop n (b ∷ bytes)))
-
 lexed_next : (steps at : ℕ) (bytes : List ℕ) → 0 < length bytes → length bytes ≤ suc steps → (found : Next) → IsNext bytes found →
     ((at : ℕ) (rest : List ℕ) → length rest ≤ steps → Tokens at rest (lexed steps at rest)) →
     Tokens at bytes (followed found at (λ n. lexed steps (at + n) (drop n bytes)))
 unfolding IsNext
 lexed_next steps at bytes some le (skips n) h more =
-    h.1 at (lexed steps (at + n) (drop n bytes)) (more (at + n) (drop n bytes) (omega (arith, length-drop n bytes, h.0)))
+    h.2 at (lexed steps (at + n) (drop n bytes)) (more (at + n) (drop n bytes) (omega (arith, length-drop n bytes, h.0)))
 lexed_next steps at bytes some le (finds t n) h more =
     let least : 0 < n = omega (arith, token_some t h.0 h.2.spelled, h.1) in
     Tokens.token h.2 (subst (λ k. Tokens (at + k) (drop n bytes) (lexed steps (at + n) (drop n bytes))) (sym h.1)
@@ -652,3 +549,41 @@ lexed_tokens zero at (b ∷ bytes) le = absurd (omega arith)
 lexed_tokens (suc steps) at [] le = Tokens.end
 lexed_tokens (suc steps) at (b ∷ bytes) le =
     lexed_next steps at (b ∷ bytes) (omega arith) le (next (b ∷ bytes)) (next_stands (b ∷ bytes) (omega arith)) (λ at rest le. lexed_tokens steps at rest le)
+
+-- ---- the list, step by step
+
+-- Some bytes are taken, and no more than there are.
+abbrev pub IsSized : Next → List ℕ → Type 0
+IsSized (skips n) bytes = (0 < n) × (n ≤ length bytes)
+IsSized (finds t n) bytes = (0 < n) × (n ≤ length bytes)
+IsSized fails bytes = ⊤
+
+pub next_sized : (bytes : List ℕ) → 0 < length bytes → IsSized (next bytes) bytes
+unfolding IsNext
+next_sized bytes some = by_next (next bytes) (next_stands bytes some)
+  where
+    by_next : (found : Next) → IsNext bytes found → IsSized found bytes
+    by_next (skips n) h = (h.0, h.1)
+    by_next (finds t n) h =
+        let first = h.2 in
+        (omega (arith, token_some t h.0 first.spelled, h.1), omega (arith, h.1, ap length first.parts, length-append h.0 (drop n bytes)))
+    by_next fails h = tt
+
+-- so many steps as there are bytes are enough
+enough : (steps at : ℕ) (bytes : List ℕ) → length bytes ≤ steps → lexed steps at bytes ≡ lexed (length bytes) at bytes
+enough steps at bytes le = Tokens-one (lexed_tokens steps at bytes le) (lexed_tokens (length bytes) at bytes (omega arith))
+
+-- what stands at the front, and then the tokens of what follows it
+pub lexed_front : (at : ℕ) (bytes : List ℕ) → 0 < length bytes →
+    lexed (length bytes) at bytes ≡ followed (next bytes) at (λ n. lexed (length (drop n bytes)) (at + n) (drop n bytes))
+lexed_front at [] some = absurd (omega arith)
+lexed_front at (b ∷ bytes) some = by_next (next (b ∷ bytes)) (next_sized (b ∷ bytes) some)
+  where
+    behind_it : (n : ℕ) → 0 < n → lexed (length bytes) (at + n) (drop n (b ∷ bytes)) ≡ lexed (length (drop n (b ∷ bytes))) (at + n) (drop n (b ∷ bytes))
+    behind_it n more = enough (length bytes) (at + n) (drop n (b ∷ bytes)) (omega (arith, length-drop n (b ∷ bytes)))
+
+    by_next : (found : Next) → IsSized found (b ∷ bytes) → followed found at (λ n. lexed (length bytes) (at + n) (drop n (b ∷ bytes))) ≡
+        followed found at (λ n. lexed (length (drop n (b ∷ bytes))) (at + n) (drop n (b ∷ bytes)))
+    by_next (skips n) h = behind_it n h.0
+    by_next (finds t n) h = ap (λ ts. record { token = t; at = at } ∷ ts) (behind_it n h.0)
+    by_next fails h = refl

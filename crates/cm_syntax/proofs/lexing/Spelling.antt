@@ -1,6 +1,6 @@
 -- How tokens are spelled: which token a text is, and which bytes it has. The tables are computed case by case.
-use Rattle.std.proofs.Common.{◌≡◌, ℕ, ◌<◌, ◌≤◌, Bool, true, false, List, [], ◌∷◌, length, refl, sym, ap, ◌∙◌, arith, Option, Some, inl, inr}
-use Rattle.std.specs.List.{list_all, list_any, find}
+use Rattle.std.proofs.Common.{◌≡◌, ℕ, ◌<◌, ◌≤◌, Bool, true, false, List, [], ◌∷◌, length, refl, sym, ap, ◌∙◌, arith, Some, inl, inr}
+use Rattle.std.specs.List.{list_all, list_any}
 use Rattle.std.proofs.lemmas.Bool.{and_parts, or_cases, true≢false}
 use lib.Pointwise.{bytes_decides}
 use Rattle.cm_syntax.specs.declared.token.Keyword.{Keyword}
@@ -8,32 +8,12 @@ use Rattle.cm_syntax.specs.declared.token.Keyword.TheVariants as word
 use Rattle.cm_syntax.specs.declared.token.Sign.{Sign}
 use Rattle.cm_syntax.specs.declared.token.Sign.TheVariants as sign
 use Rattle.cm_syntax.specs.Text.{is_space, is_letter, is_word_byte, is_same, keyword_text, reserved_words, sign_text}
+use Rattle.cm_syntax.specs.Lexer.{keyword_written, sign_written}
 use Rattle.cm_syntax.specs.Token.{begins, is_reserved}
 
 -- texts with the same bytes are equal
 pub is_same-equal : (a b : List ℕ) → is_same a b ≡ true → a ≡ b
 is_same-equal a b = (bytes_decides a b).0
-
--- all words of the language, and all signs with the longest first
-abbrev pub all_keywords : List Keyword
-all_keywords = word.Int ∷ word.Void ∷ word.Cilk ∷ word.Spawn ∷ word.Sync ∷ word.If ∷ word.Else ∷ word.While ∷ word.For ∷ word.Return ∷ word.Print ∷ word.Input ∷ word.Inputs ∷ word.Len ∷ word.Split ∷ word.At ∷ word.As ∷ []
-
-abbrev pub all_signs : List Sign
-all_signs =
-    sign.ShiftLeftAssign ∷ sign.ShiftRightAssign ∷ sign.ShiftLeft ∷ sign.ShiftRight ∷ sign.LessEqual ∷ sign.GreaterEqual ∷
-    sign.Equal ∷ sign.NotEqual ∷ sign.AndAnd ∷ sign.OrOr ∷ sign.PlusAssign ∷ sign.MinusAssign ∷
-    sign.StarAssign ∷ sign.SlashAssign ∷ sign.PercentAssign ∷ sign.AndAssign ∷ sign.CaretAssign ∷ sign.OrAssign ∷
-    sign.PlusPlus ∷ sign.MinusMinus ∷ sign.Plus ∷ sign.Minus ∷ sign.Star ∷ sign.Slash ∷
-    sign.Percent ∷ sign.Less ∷ sign.Greater ∷ sign.Assign ∷ sign.Exclamation ∷ sign.Tilde ∷
-    sign.Ampersand ∷ sign.Caret ∷ sign.Bar ∷ sign.ParenOpen ∷ sign.ParenClose ∷ sign.BraceOpen ∷
-    sign.BraceClose ∷ sign.BracketOpen ∷ sign.BracketClose ∷ sign.Comma ∷ sign.Semicolon ∷ []
-
--- the word or the sign that is written so
-abbrev pub keyword_written : List ℕ → Option Keyword
-keyword_written text = find (λ k. is_same (keyword_text k) text) all_keywords
-
-abbrev pub sign_written : List ℕ → Option Sign
-sign_written text = find (λ s. is_same (sign_text s) text) all_signs
 
 -- each word is found by its text
 pub keyword_written-text : (k : Keyword) → keyword_written (keyword_text k) ≡ Some k

@@ -13,7 +13,8 @@ use Rattle.cm_syntax.specs.Number.{function_numbers}
 use Rattle.cm_syntax.specs.Fault.{faults, program_of}
 use Rattle.cm_syntax.specs.Row.{HasFunctions, IsAccepted, HasNumbers, ResolvesToSlot, IsSoundSource}
 use Rattle.cm_syntax.specs.Machine.{Answer, accepted, refused, text_answer, IsAnswerTo}
-use Rattle.cm_syntax.proofs.lexing.Lexing.{lexed, lexed_tokens}
+use Rattle.cm_syntax.specs.Lexer.{lexed}
+use Rattle.cm_syntax.proofs.lexing.Lexing.{lexed_tokens}
 use Rattle.cm_syntax.proofs.machine.Answer.{text_answered}
 
 -- the tokens of a text

@@ -13,9 +13,10 @@ use Rattle.cm_syntax.specs.declared.token.Sign.{Sign}
 use Rattle.cm_syntax.specs.Text.{is_space, is_word_byte, is_same, sign_text}
 use Rattle.cm_syntax.specs.Token.{Token, LocatedToken, token_at, DoesNotBegin, begins, IsName, IsNumber, Spells, OpensComment, IsFirstToken, Tokens}
 use Rattle.cm_syntax.specs.Canonical.{token_text}
-use Rattle.cm_syntax.proofs.lexing.Spelling.{all_signs, sign_written-text}
+use Rattle.cm_syntax.specs.Lexer.{all_signs, front}
+use Rattle.cm_syntax.proofs.lexing.Spelling.{sign_written-text}
 use Rattle.cm_syntax.proofs.lexing.TokenLaw.{word_no_space, word_or_sign, token_some}
-use Rattle.cm_syntax.proofs.lexing.Lexing.{front, passing_front, whole_front, begins_all, run_apart}
+use Rattle.cm_syntax.proofs.lexing.Lexing.{passing_front, whole_front, begins_all, run_apart}
 
 -- a token that can be written: a name is a name, and a number isn't more than the greatest literal
 abbrev pub Writable : Token → Type 0

@@ -1,6 +1,7 @@
 use Rattle.std.proofs.Common.{length, arith}
+use Rattle.cm_syntax.specs.Lexer.{lexed}
 use Rattle.cm_syntax.proofs.lexing.TokenLaw.{Tokens-one}
-use Rattle.cm_syntax.proofs.lexing.Lexing.{lexed, lexed_tokens}
+use Rattle.cm_syntax.proofs.lexing.Lexing.{lexed_tokens}
 use Rattle.cm_syntax.proofs.law.one_token_list.Goals as goal
 
 pub returns-clause-some : goal.returns-clause-some

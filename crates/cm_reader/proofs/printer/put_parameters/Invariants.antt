@@ -1,0 +1,10 @@
+use Rattle.std.proofs.Common.{◌≡◌, ◌++◌, true, drop}
+use Rattle.std.specs.Prelude.{◌==◌}
+use Rattle.cm_reader.proofs.PrinterLaws.{parameter_text}
+use Rattle.cm_reader.specs.Spaced.{spaced}
+use Rattle.cm_reader.proofs.SpacedLaws.{separated}
+use Rattle.cm_reader.proofs.printer.put_parameters.Given as goal
+
+-- with the items that are left, what was put comes to the whole
+abbrev pub invariant-loop-index : goal.invariant-loop-index
+invariant-loop-index l = l.text ++ spaced (separated parameter_text (l.index == 0) (drop l.index l.parameters)) ≡ l.initial.text ++ spaced (separated parameter_text true l.parameters)

@@ -1,0 +1,4 @@
+pub mod Next
+pub mod Found
+pub mod Spaced
+pub mod ReadBack
