@@ -3,3 +3,4 @@ pub mod SpacedLaws
 pub mod PrinterLaws
 pub mod ScanLaws
 pub mod LexerLaws
+pub mod SourceLaws

@@ -2,3 +2,5 @@ pub mod Next
 pub mod Found
 pub mod Spaced
 pub mod ReadBack
+pub mod Read
+pub mod Answer

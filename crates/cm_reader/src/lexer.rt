@@ -21,7 +21,7 @@ use cm_text::{List, Memory};
 use std::alloc::Global;
 
 /// The bytes of a source, at most.
-const MAX_SOURCE_BYTES: u32 = 65_536;
+pub(crate) const MAX_SOURCE_BYTES: u32 = 65_536;
 
 /// The `(` and `[` that are open at once in a statement, at most.
 const MAX_OPEN_BRACKETS: u32 = 64;
