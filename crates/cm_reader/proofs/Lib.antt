@@ -1,1 +1,5 @@
+mod ExpressionLaws
+mod FunctionLaws
+mod SimpleLaws
+mod StatementLaws
 mod StepLaws

@@ -81,15 +81,35 @@ abbrev pub unary_operator : List LocatedToken → Option Op
 unary_operator [] = None
 unary_operator (t ∷ tokens) = token_unary_operator (token_of t.token)
 
--- the operator of an update, of a token
-abbrev pub token_update : Token → Option Op
-token_update (Token.sign s) = update_operator s
-token_update _ = None
+-- what an assignment does by the operator of its sign, and whether its sign is `=`
+abbrev pub assignment_of : Option Op → Bool → Option (Option Op)
+assignment_of (Some o) plain = Some (Some o)
+assignment_of None true = Some None
+assignment_of None false = None
 
--- the operator of the update whose sign stands next
-abbrev pub next_update : List LocatedToken → Option Op
-next_update [] = None
-next_update (t ∷ tokens) = token_update (token_of t.token)
+-- what an assignment does that has this sign: the operator of an update, or none for `=`
+abbrev pub sign_assignment : Sign → Option (Option Op)
+sign_assignment s = assignment_of (update_operator s) (is_sign sign.Assign (Token.sign s))
+
+-- what an assignment does that has this token
+abbrev pub token_assignment : Token → Option (Option Op)
+token_assignment (Token.sign s) = sign_assignment s
+token_assignment _ = None
+
+-- what the assignment does whose sign stands next
+abbrev pub next_assignment : List LocatedToken → Option (Option Op)
+next_assignment [] = None
+next_assignment (t ∷ tokens) = token_assignment (token_of t.token)
+
+-- the number that a token is
+abbrev pub token_number : Token → Option ℕ
+token_number (Token.number n) = Some n
+token_number _ = None
+
+-- the number that stands next
+abbrev pub next_number : List LocatedToken → Option ℕ
+next_number [] = None
+next_number (t ∷ tokens) = token_number (token_of t.token)
 
 -- what an operand begins with where its first token is this sign
 abbrev pub sign_primary : Sign → PrimaryStart

@@ -4,12 +4,16 @@ use Rattle.cm_syntax.specs.declared.name.Name.{Name}
 use Rattle.cm_syntax.specs.declared.expr.Expr.{Expr}
 use Rattle.cm_syntax.specs.declared.expr.Op.{Op}
 use Rattle.cm_syntax.specs.declared.expr.Arg.{Arg}
+use Rattle.cm_syntax.specs.declared.stmt.Item.{Item}
+use Rattle.cm_syntax.specs.declared.stmt.Stmt.{Stmt}
+use Rattle.cm_syntax.specs.declared.stmt.Function.{Function}
+use Rattle.cm_syntax.specs.declared.token.Keyword.TheVariants as keyword
 use Rattle.cm_syntax.specs.declared.token.Sign.TheVariants as sign
 use Rattle.cm_syntax.specs.Token.{Token}
 use Rattle.cm_syntax.specs.ParseTree.{Mark, Offset, level_of}
 use Rattle.cm_syntax.specs.Yield.{Quantity}
 use Rattle.cm_syntax.specs.Refusal.{Refusal}
-use Rattle.cm_syntax.specs.Machine.{State, Next, goes, stops, step, finish, is_within, run, Answer, refused}
+use Rattle.cm_syntax.specs.Machine.{State, Next, goes, stops, step, finish, is_within, run, Answer, refused, value, parenthesized, body, function_of}
 use Rattle.cm_reader.specs.declared.token.LocatedToken.{LocatedToken}
 use Rattle.cm_reader.specs.declared.refusal.ReadRefusal.{ReadRefusal}
 use Rattle.cm_reader.specs.declared.refusal.ReadRefusal.TheVariants as refusal
@@ -108,3 +112,93 @@ RefusesArgument length tokens refusal =
 -- a name between parentheses
 abbrev pub parenthesized_name : (Mark → State) → State
 parenthesized_name k = State.sign_next sign.ParenOpen (State.name_next (λ x. State.sign_next sign.ParenClose (k x)))
+
+-- ---- declarations, assignments and calls
+
+-- a declarator
+abbrev pub item_next : (Item Name → State) → State
+item_next k = State.name_next (λ x. State.item_name x k)
+
+-- An assignment or a call is read, where what is counted at its first token is within its limit or not.
+abbrev pub ReadsSimple : (length : ℕ) → (fits : Bool) → (tokens : List LocatedToken) → Stmt Name → (rest : List LocatedToken) → Type 0
+ReadsSimple length fits tokens tree rest = (q : Quantity) → is_within q ≡ fits → Reads length (State.simple q) tokens tree rest
+
+abbrev pub RefusesSimple : (length : ℕ) → (fits : Bool) → (tokens : List LocatedToken) → ReadRefusal → Type 0
+RefusesSimple length fits tokens refusal = (q : Quantity) → is_within q ≡ fits → Refuses length (State.simple q) tokens refusal
+
+-- ---- statements
+
+-- A statement without statements in it is read, whatever the depth of statements in it would be.
+abbrev pub ReadsFlat : (length depth : ℕ) → (tokens : List LocatedToken) → Stmt Name → (rest : List LocatedToken) → Type 0
+ReadsFlat length depth tokens tree rest = (inner : ℕ) → Reads length (State.plain depth inner) tokens tree rest
+
+abbrev pub RefusesFlat : (length depth : ℕ) → (tokens : List LocatedToken) → ReadRefusal → Type 0
+RefusesFlat length depth tokens refusal = (inner : ℕ) → Refuses length (State.plain depth inner) tokens refusal
+
+-- A statement of a block is read behind others.
+abbrev pub ReadsStatement : (length depth : ℕ) → (tokens : List LocatedToken) → Stmt Name → (rest : List LocatedToken) → Type 0
+ReadsStatement length depth tokens tree rest =
+    (before : List (Stmt Name)) (k : List (Stmt Name) → Offset → State) →
+    answer length (State.statements depth before k) tokens ≡ answer length (State.statements depth (before ++ tree ∷ []) k) rest
+
+abbrev pub RefusesStatement : (length depth : ℕ) → (tokens : List LocatedToken) → ReadRefusal → Type 0
+RefusesStatement length depth tokens refusal =
+    (before : List (Stmt Name)) (k : List (Stmt Name) → Offset → State) → IsRefusal refusal (answer length (State.statements depth before k) tokens)
+
+-- The statements of a block and the offset of its `}` are read.
+abbrev pub ReadsBlock : (length depth : ℕ) → (tokens : List LocatedToken) → List (Stmt Name) → Offset → (rest : List LocatedToken) → Type 0
+ReadsBlock length depth tokens inside close rest =
+    (k : List (Stmt Name) → Offset → State) → answer length (State.statements depth [] k) tokens ≡ answer length (k inside close) rest
+
+abbrev pub RefusesBlock : (length depth : ℕ) → (tokens : List LocatedToken) → ReadRefusal → Type 0
+RefusesBlock length depth tokens refusal =
+    (k : List (Stmt Name) → Offset → State) → IsRefusal refusal (answer length (State.statements depth [] k) tokens)
+
+-- what follows the word `if`
+abbrev pub if_parts : (d : ℕ) → (Stmt Name → State) → State
+if_parts d k = parenthesized (λ test. body d (λ chosen. State.otherwise d test chosen k))
+
+-- what stands between `for` and its body
+abbrev pub turns : (Stmt Name → Option (Expr Name) → Stmt Name → State) → State
+turns k =
+    State.sign_next sign.ParenOpen (State.first_part (λ first. State.sign_next sign.Semicolon
+    (State.optional_value (λ test. State.sign_next sign.Semicolon
+    (State.last_part (λ last. State.sign_next sign.ParenClose (k first test last)))))))
+
+abbrev pub ReadsTurns : (length : ℕ) → (tokens : List LocatedToken) → Stmt Name → Option (Expr Name) → Stmt Name → (rest : List LocatedToken) → Type 0
+ReadsTurns length tokens first test last rest =
+    (k : Stmt Name → Option (Expr Name) → Stmt Name → State) → answer length (turns k) tokens ≡ answer length (k first test last) rest
+
+abbrev pub RefusesTurns : (length : ℕ) → (tokens : List LocatedToken) → ReadRefusal → Type 0
+RefusesTurns length tokens refusal = (k : Stmt Name → Option (Expr Name) → Stmt Name → State) → IsRefusal refusal (answer length (turns k) tokens)
+
+-- what stands between `split` and its block
+abbrev pub parts : (Mark → Expr Name → Mark → Mark → State) → State
+parts k =
+    State.name_next (λ whole. State.word_next keyword.At (value (λ e. State.word_next keyword.As
+    (State.name_next (λ left. State.sign_next sign.Comma (State.name_next (λ right. State.sign_next sign.BraceOpen (k whole e left right))))))))
+
+abbrev pub ReadsParts : (length : ℕ) → (tokens : List LocatedToken) → Mark → Expr Name → Mark → Mark → (rest : List LocatedToken) → Type 0
+ReadsParts length tokens whole e left right rest =
+    (k : Mark → Expr Name → Mark → Mark → State) → answer length (parts k) tokens ≡ answer length (k whole e left right) rest
+
+abbrev pub RefusesParts : (length : ℕ) → (tokens : List LocatedToken) → ReadRefusal → Type 0
+RefusesParts length tokens refusal = (k : Mark → Expr Name → Mark → Mark → State) → IsRefusal refusal (answer length (parts k) tokens)
+
+-- ---- functions
+
+-- The mark of a function is read, where there is one.
+abbrev pub ReadsMark : (length : ℕ) → (tokens : List LocatedToken) → Bool → (rest : List LocatedToken) → Type 0
+ReadsMark length tokens cilk rest =
+    (k : Function Name → State) → answer length (State.function_next k) tokens ≡ answer length (State.return_type (λ gives. function_of cilk gives k)) rest
+
+abbrev pub RefusesMark : (length : ℕ) → (tokens : List LocatedToken) → ReadRefusal → Type 0
+RefusesMark length tokens refusal = (k : Function Name → State) → IsRefusal refusal (answer length (State.function_next k) tokens)
+
+-- a parameter
+abbrev pub parameter_next : (Item Name → State) → State
+parameter_next k = State.word_next keyword.Int (State.parameter_declarator k)
+
+-- one parameter or more, and `)`
+abbrev pub some_parameters : (List (Item Name) → State) → State
+some_parameters k = parameter_next (λ one. State.more_parameters (one ∷ []) k)

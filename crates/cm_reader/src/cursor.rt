@@ -11,7 +11,7 @@ use cm_syntax::{Keyword, Mark, Name, Sign};
 use std::alloc::Global;
 
 /// The most bytes that a source has.
-const MAX_SOURCE_BYTES: u32 = 65536;
+pub(crate) const MAX_SOURCE_BYTES: u32 = 65536;
 
 /// What each part of the reader needs: where trees are made, and the bytes of the text.
 #[derive(Clone, Copy)]
@@ -24,7 +24,7 @@ pub struct Reader {
 
 impl Reader {
     /// Why a text is refused that ends too early.
-    fn refuse_end(self) -> ReadRefusal
+    pub(crate) fn refuse_end(self) -> ReadRefusal
         ensures { IsRefusal result (end_answer self.length None) }
     {
         if self.length > MAX_SOURCE_BYTES {

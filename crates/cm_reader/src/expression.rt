@@ -118,8 +118,9 @@ impl Reader {
             Ok((Expr::Index(name, Boxed::new(self.alloc, place)?), rest))
         } else if is_next(tokens, Sign::ParenOpen) {
             let rest = self.accept(tokens, true)?;
-            let (call, rest) = self.call_of(name, rest)?;
-            Ok((Expr::Call(call), rest))
+            let (arguments, rest) = self.arguments(rest)?;
+            let function = name;
+            Ok((Expr::Call(Call { function, arguments }), rest))
         } else {
             Ok((Expr::Scalar(name), tokens))
         }
@@ -127,15 +128,15 @@ impl Reader {
 
     /// The arguments of a call behind `(`, and `)`.
     #[cycle(expression)]
-    pub(crate) fn call_of<'a>(self, function: Mark<Name>, tokens: &'a [LocatedToken]) -> Result<(Call<Name>, &'a [LocatedToken]), ReadRefusal>
+    fn arguments<'a>(self, tokens: &'a [LocatedToken]) -> Result<(List<Arg<Name>>, &'a [LocatedToken]), ReadRefusal>
         ensures shorter { IfOk result (λ read. length read.1.now < length tokens.now) }
-        ensures ok { IfOk result (λ read. Reads self.length (call_of function) tokens.now read.0 read.1.now) }
-        ensures err { IfErr result (Refuses self.length (call_of function) tokens.now) }
+        ensures ok { IfOk result (λ read. Reads self.length State.first_argument tokens.now read.0 read.1.now) }
+        ensures err { IfErr result (Refuses self.length State.first_argument tokens.now) }
     {
         let mut arguments = List::new(self.alloc);
         if is_next(tokens, Sign::ParenClose) {
             let rest = self.accept(tokens, true)?;
-            return Ok((Call { function, arguments }, rest));
+            return Ok((arguments, rest));
         }
         let (first, mut rest) = self.argument(tokens)?;
         arguments.push(first)?;
@@ -146,7 +147,7 @@ impl Reader {
             rest = end;
         }
         let rest = self.sign(rest, Sign::ParenClose)?;
-        Ok((Call { function, arguments }, rest))
+        Ok((arguments, rest))
     }
 
     /// An argument.
@@ -200,6 +201,16 @@ impl Reader {
         let (inner, rest) = self.value(rest)?;
         let rest = self.sign(rest, Sign::ParenClose)?;
         Ok((inner, rest))
+    }
+
+    /// The arguments of a call of this function, behind `(`, and `)`.
+    pub(crate) fn call_of<'a>(self, function: Mark<Name>, tokens: &'a [LocatedToken]) -> Result<(Call<Name>, &'a [LocatedToken]), ReadRefusal>
+        ensures shorter { IfOk result (λ read. length read.1.now < length tokens.now) }
+        ensures ok { IfOk result (λ read. Reads self.length (call_of function) tokens.now read.0 read.1.now) }
+        ensures err { IfErr result (Refuses self.length (call_of function) tokens.now) }
+    {
+        let (arguments, rest) = self.arguments(tokens)?;
+        Ok((Call { function, arguments }, rest))
     }
 
     /// A name between parentheses.

@@ -3,8 +3,11 @@
 
 mod cursor;
 mod expression;
+mod parser;
 mod refusal;
+mod simple;
 mod start;
+mod statement;
 mod token;
 
 pub use refusal::ReadRefusal;

@@ -206,12 +206,23 @@ fn sign_unary_operator(sign: Sign) -> Option<Op>
     }
 }
 
-/// The operator of the update whose sign stands next.
-pub(crate) fn next_update(tokens: &[LocatedToken]) -> Option<Op>
-    ensures { result ≡ next.next_update tokens.now }
+/// What the assignment does whose sign stands next: the operator of an update, or none for `=`.
+pub(crate) fn next_assignment(tokens: &[LocatedToken]) -> Option<Option<Op>>
+    ensures { result ≡ next.next_assignment tokens.now }
 {
     match sign_of(tokens) {
-        Some(sign) => sign_update(sign),
+        Some(sign) => sign_assignment(sign),
+        None => None,
+    }
+}
+
+/// What the assignment does that has this sign.
+fn sign_assignment(sign: Sign) -> Option<Option<Op>>
+    ensures { result ≡ next.sign_assignment sign }
+{
+    match sign_update(sign) {
+        Some(op) => Some(Some(op)),
+        None if same_sign(sign, Sign::Assign) => Some(None),
         None => None,
     }
 }
@@ -236,6 +247,17 @@ fn sign_update(sign: Sign) -> Option<Op>
 }
 
 // ---- operands and statements
+
+/// The number that stands next.
+pub(crate) fn next_number(tokens: &[LocatedToken]) -> Option<u32>
+    ensures { result ≡ next.next_number tokens.now }
+{
+    let (first, _) = tokens.split_first()?;
+    match &first.token {
+        Token::Number(value) => Some(*value),
+        _ => None,
+    }
+}
 
 /// What the operand that stands next begins with, behind its unary operators.
 pub(crate) fn primary_start(tokens: &[LocatedToken]) -> PrimaryStart

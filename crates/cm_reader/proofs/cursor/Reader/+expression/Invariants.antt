@@ -1,8 +1,8 @@
-use Rattle.std.proofs.Common.{◌≡◌, ◌≤◌, ◌<◌, ◌+◌, ◌*◌, ℕ, length}
+use Rattle.std.proofs.Common.{◌≡◌, ◌≤◌, ◌<◌, ◌+◌, ◌*◌, ℕ, List, length}
 use Rattle.cm_syntax.specs.declared.name.Name.{Name}
 use Rattle.cm_syntax.specs.declared.expr.Expr.{Expr}
-use Rattle.cm_syntax.specs.declared.expr.Call.{Call}
-use Rattle.cm_syntax.specs.Machine.{State, whole, call_of}
+use Rattle.cm_syntax.specs.declared.expr.Arg.{Arg}
+use Rattle.cm_syntax.specs.Machine.{State, whole}
 use Rattle.cm_reader.specs.Read.{answer}
 use Rattle.cm_reader.proofs.cursor.Reader.+expression.Given as goal
 
@@ -30,18 +30,17 @@ decreases-argument l = 8 * length l.tokens.now + 5
 abbrev pub decreases-index : goal.decreases-index
 decreases-index l = 8 * length l.tokens.now + 5
 
-abbrev pub decreases-call_of : goal.decreases-call_of
-decreases-call_of l = 8 * length l.tokens.now + 6
+abbrev pub decreases-arguments : goal.decreases-arguments
+decreases-arguments l = 8 * length l.tokens.now + 6
 
-abbrev pub invariant-call_of-loop-rest : goal.invariant-call_of-loop-rest
-invariant-call_of-loop-rest l = record {
-  reads : (k : Call Name → State) → answer l.self.length (call_of l.function k) l.tokens ≡
-      answer l.self.length (State.more_arguments l.arguments (λ arguments. k (record { function = l.function; arguments = arguments }))) l.rest;
+abbrev pub invariant-arguments-loop-rest : goal.invariant-arguments-loop-rest
+invariant-arguments-loop-rest l = record {
+  reads : (k : List (Arg Name) → State) → answer l.self.length (State.first_argument k) l.tokens ≡ answer l.self.length (State.more_arguments l.arguments k) l.rest;
   shorter : length l.rest < length l.tokens;
 }
 
-abbrev pub decreases-call_of-loop-rest : goal.decreases-call_of-loop-rest
-decreases-call_of-loop-rest l = length l.rest
+abbrev pub decreases-arguments-loop-rest : goal.decreases-arguments-loop-rest
+decreases-arguments-loop-rest l = length l.rest
 
 abbrev pub invariant-expression-loop-op : goal.invariant-expression-loop-op
 invariant-expression-loop-op l = record {
