@@ -6,6 +6,7 @@ use Rattle.cm_syntax.specs.declared.expr.Op.{Op}
 use Rattle.cm_syntax.specs.declared.expr.Arg.{Arg}
 use Rattle.cm_syntax.specs.declared.stmt.Item.{Item}
 use Rattle.cm_syntax.specs.declared.stmt.Stmt.{Stmt}
+use Rattle.cm_syntax.specs.declared.stmt.Stmt.TheVariants as statement
 use Rattle.cm_syntax.specs.declared.stmt.Function.{Function}
 use Rattle.cm_syntax.specs.declared.token.Keyword.TheVariants as keyword
 use Rattle.cm_syntax.specs.declared.token.Sign.TheVariants as sign
@@ -153,6 +154,16 @@ ReadsBlock length depth tokens inside close rest =
 abbrev pub RefusesBlock : (length depth : ℕ) → (tokens : List LocatedToken) → ReadRefusal → Type 0
 RefusesBlock length depth tokens refusal =
     (k : List (Stmt Name) → Offset → State) → IsRefusal refusal (answer length (State.statements depth [] k) tokens)
+
+-- What follows an `if` with this condition and this statement is read: its `else`, where there is one.
+abbrev pub ReadsOther : (length depth : ℕ) → (tokens : List LocatedToken) → Option (Stmt Name) → (rest : List LocatedToken) → Type 0
+ReadsOther length depth tokens other rest =
+    (test : Expr Name) (chosen : Stmt Name) (k : Stmt Name → State) →
+    answer length (State.otherwise depth test chosen k) tokens ≡ answer length (k (statement.If test chosen other)) rest
+
+abbrev pub RefusesOther : (length depth : ℕ) → (tokens : List LocatedToken) → ReadRefusal → Type 0
+RefusesOther length depth tokens refusal =
+    (test : Expr Name) (chosen : Stmt Name) (k : Stmt Name → State) → IsRefusal refusal (answer length (State.otherwise depth test chosen k) tokens)
 
 -- what follows the word `if`
 abbrev pub if_parts : (d : ℕ) → (Stmt Name → State) → State

@@ -1,6 +1,6 @@
 //! How programs are read.
 ghost use Rattle.std.specs.Prelude.{◌≡◌, ◌≤◌, ◌<◌, IfOk, IfErr, length};
-ghost use Rattle.cm_syntax.specs.Machine.{State, start, accepted, function_of};
+ghost use Rattle.cm_syntax.specs.Machine.{State, start, accepted, function_of, end_answer, some_functions};
 ghost use Rattle.cm_reader.specs.Read.{answer, Reads, Refuses, ReadsMark, RefusesMark, IsRefusal, parameter_next, some_parameters};
 
 use crate::cursor::{MAX_SOURCE_BYTES, Reader};
@@ -24,13 +24,24 @@ pub(crate) fn parse(alloc: Global, tokens: &[LocatedToken], length: u32) -> Resu
         functions.push(function)?;
         rest = end;
     }
-    if length > MAX_SOURCE_BYTES || functions.is_empty() {
-        return Err(reader.refuse_end());
-    }
-    Ok(functions)
+    reader.finish(functions)
 }
 
 impl Reader {
+    /// The functions of a text whose tokens have ended behind them.
+    fn finish(self, functions: List<Function<Name>>) -> Result<List<Function<Name>>, ReadRefusal>
+        ensures ok { IfOk result (λ read. end_answer self.length (some_functions functions) ≡ accepted read) }
+        ensures err { IfErr result (λ refusal. IsRefusal refusal (end_answer self.length (some_functions functions))) }
+    {
+        if self.length > MAX_SOURCE_BYTES {
+            return Err(self.refuse_end());
+        }
+        if functions.is_empty() {
+            return Err(self.refuse_end());
+        }
+        Ok(functions)
+    }
+
     /// A function.
     fn function<'a>(self, tokens: &'a [LocatedToken]) -> Result<(Function<Name>, &'a [LocatedToken]), ReadRefusal>
         ensures shorter { IfOk result (λ read. length read.1.now < length tokens.now) }

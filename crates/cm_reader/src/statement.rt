@@ -4,7 +4,7 @@ ghost use Rattle.cm_syntax.specs.declared.token.Sign.TheVariants.{BraceClose};
 ghost use Rattle.cm_syntax.specs.Machine.{State, body, spawned, for_parts, split_parts};
 ghost use Rattle.cm_reader.specs.declared.start.StatementStart.TheVariants.{Flat};
 ghost use Rattle.cm_reader.specs.Next as next;
-ghost use Rattle.cm_reader.specs.Read.{Reads, Refuses, ReadsFlat, RefusesFlat, ReadsStatement, RefusesStatement, ReadsTurns, RefusesTurns, ReadsParts, RefusesParts, ReadsBlock, RefusesBlock, if_parts};
+ghost use Rattle.cm_reader.specs.Read.{Reads, Refuses, ReadsFlat, RefusesFlat, ReadsStatement, RefusesStatement, ReadsTurns, RefusesTurns, ReadsParts, RefusesParts, ReadsBlock, RefusesBlock, ReadsOther, RefusesOther, if_parts};
 
 use crate::cursor::Reader;
 use crate::refusal::ReadRefusal;
@@ -305,14 +305,27 @@ impl Reader {
     {
         let (test, rest) = self.parenthesized(tokens)?;
         let (chosen, rest) = self.body(rest, depth)?;
+        let (other, rest) = self.otherwise(rest, depth)?;
         let then = Boxed::new(self.alloc, chosen)?;
-        if !is_next_word(rest, Keyword::Else) {
-            return Ok((Stmt::If { test, then, other: None }, rest));
-        }
-        let rest = self.accept(rest, true)?;
-        let (other, rest) = self.body(rest, depth)?;
-        let other = Some(Boxed::new(self.alloc, other)?);
         Ok((Stmt::If { test, then, other }, rest))
+    }
+
+    /// `else` and what follows it behind an `if` at this depth, or nothing.
+    #[cycle(statement)]
+    fn otherwise<'a>(self, tokens: &'a [LocatedToken], depth: u32) -> Result<(Option<Boxed<Stmt<Name>>>, &'a [LocatedToken]), ReadRefusal>
+        requires { depth ≤ 64 }
+        ensures shorter { IfOk result (λ read. length read.1.now ≤ length tokens.now) }
+        ensures ok { IfOk result (λ read. ReadsOther self.length depth tokens.now read.0 read.1.now) }
+        ensures err { IfErr result (RefusesOther self.length depth tokens.now) }
+    {
+        if is_next_word(tokens, Keyword::Else) {
+            let rest = self.accept(tokens, true)?;
+            let (inside, rest) = self.body(rest, depth)?;
+            let other = Boxed::new(self.alloc, inside)?;
+            Ok((Some(other), rest))
+        } else {
+            Ok((None, tokens))
+        }
     }
 
     /// What follows the word `for` at this depth.

@@ -35,3 +35,6 @@ invariant-statements-loop-rest l = record {
 
 abbrev pub decreases-statements-loop-rest : goal.decreases-statements-loop-rest
 decreases-statements-loop-rest l = length l.rest
+
+abbrev pub decreases-otherwise : goal.decreases-otherwise
+decreases-otherwise l = 4 * length l.tokens.now

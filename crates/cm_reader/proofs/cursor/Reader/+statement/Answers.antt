@@ -1,0 +1,247 @@
+use Rattle.std.proofs.Common.{sym, ap, refl, ◌∙◌, ◌++◌, ◌∷◌, [], true, false, arith, pos, Option, None, Some}
+use Rattle.cm_syntax.specs.declared.stmt.Stmt.TheVariants as statement
+use Rattle.cm_syntax.specs.declared.stmt.Target.TheVariants as target
+use Rattle.cm_syntax.specs.declared.stmt.Slot.TheVariants as slot
+use Rattle.cm_syntax.specs.declared.token.Sign.TheVariants as sign
+use Rattle.cm_syntax.specs.declared.token.Keyword.TheVariants as keyword
+use Rattle.cm_syntax.specs.Yield.{Quantity}
+use Rattle.cm_syntax.specs.Machine.{State, item, count_on, with_semicolon, function_of}
+use Rattle.cm_reader.specs.Read.{answer}
+use Rattle.cm_reader.proofs.StepLaws.{err_same, refused_on, ok_map, err_map}
+use Rattle.cm_reader.proofs.StatementLaws.{plain_goes, else_goes, no_else_same, close_goes, declaration_goes, plain_same}
+use Rattle.std.proofs.Common.{◌≤◌, ◌+◌}
+use Rattle.std.proofs.lemmas.Bool.{leb-true}
+use Rattle.cm_syntax.specs.declared.expr.Expr.{Expr}
+use Rattle.cm_syntax.specs.declared.stmt.Stmt.{Stmt}
+use Rattle.cm_syntax.specs.declared.name.Name.{Name}
+use Rattle.cm_syntax.specs.Machine.{body, declaration}
+use Rattle.cm_reader.specs.declared.start.StatementStart.TheVariants as start
+use Rattle.cm_reader.specs.Next.{next_offset}
+use Rattle.cm_reader.proofs.cursor.Reader.+statement.Goals as goal
+
+pub plain-returns-in_err-rest-in-Block-clause-err : goal.plain-returns-in_err-rest-in-Block-clause-err
+plain-returns-in_err-rest-in-Block-clause-err t c =
+    err_same _ c.from_residual.result c.in_err-rest-in-Block.field-0.0 c.from_residual.ensures.1
+    (λ k. c.in_err-rest-in-Block.ensures.err (State.plain c.args.depth c.args.inner k) _ (plain_goes c.args.depth c.args.inner k c.args.tokens.now start.Block _ (sym c.statement_start.ensures ∙ c.in-Block.is) (λ token. refl)))
+
+pub plain-statements-requires : goal.plain-statements-requires
+plain-statements-requires t c =
+    let small : c.args.depth ≤ 64 = leb-true c.args.depth 64 c.in_ok-rest-in-Block.ensures.within in
+    (omega (arith, c.decreases, c.in_ok-rest-in-Block.ensures.shorter), omega (arith, small, c.requires.inner))
+
+pub plain-returns-in_err-inside-in-Block-clause-err : goal.plain-returns-in_err-inside-in-Block-clause-err
+plain-returns-in_err-inside-in-Block-clause-err t c =
+    err_same _ c.from_residual-in_err-inside-in-Block.result c.in_err-inside-in-Block.field-0.0 c.from_residual-in_err-inside-in-Block.ensures.1
+    (λ k. refused_on _ (c.in_ok-rest-in-Block.ensures.ok (State.plain c.args.depth c.args.inner k) _ (plain_goes c.args.depth c.args.inner k c.args.tokens.now start.Block _ (sym c.statement_start.ensures ∙ c.in-Block.is) (λ token. refl))) (c.in_err-inside-in-Block.ensures.err (λ inside close. k (statement.Block inside))))
+
+pub plain-returns-in_ok-inside-in-Block-clause-ok : goal.plain-returns-in_ok-inside-in-Block-clause-ok
+plain-returns-in_ok-inside-in-Block-clause-ok t c =
+    λ k. c.in_ok-rest-in-Block.ensures.ok (State.plain c.args.depth c.args.inner k) _ (plain_goes c.args.depth c.args.inner k c.args.tokens.now start.Block _ (sym c.statement_start.ensures ∙ c.in-Block.is) (λ token. refl)) ∙ c.in_ok-inside-in-Block.ensures.ok (λ inside close. k (statement.Block inside))
+
+pub plain-returns-in_err-rest-in-If-clause-err : goal.plain-returns-in_err-rest-in-If-clause-err
+plain-returns-in_err-rest-in-If-clause-err t c =
+    err_same _ c.from_residual-in_err-rest-in-If.result c.in_err-rest-in-If.field-0.0 c.from_residual-in_err-rest-in-If.ensures.1
+    (λ k. c.in_err-rest-in-If.ensures.err (State.plain c.args.depth c.args.inner k) _ (plain_goes c.args.depth c.args.inner k c.args.tokens.now start.If _ (sym c.statement_start.ensures ∙ c.in-If.is) (λ token. refl)))
+
+pub plain-if_parts-requires : goal.plain-if_parts-requires
+plain-if_parts-requires t c =
+    let small : c.args.depth ≤ 64 = leb-true c.args.depth 64 c.in_ok-rest-in-If.ensures.within in
+    (omega (arith, c.decreases, c.in_ok-rest-in-If.ensures.shorter), omega (arith, small, c.requires.inner))
+
+pub plain-returns-in_err-choice-in-If-clause-err : goal.plain-returns-in_err-choice-in-If-clause-err
+plain-returns-in_err-choice-in-If-clause-err t c =
+    err_same _ c.from_residual-in_err-choice-in-If.result c.in_err-choice-in-If.field-0.0 c.from_residual-in_err-choice-in-If.ensures.1
+    (λ k. refused_on _ (c.in_ok-rest-in-If.ensures.ok (State.plain c.args.depth c.args.inner k) _ (plain_goes c.args.depth c.args.inner k c.args.tokens.now start.If _ (sym c.statement_start.ensures ∙ c.in-If.is) (λ token. refl))) (c.in_err-choice-in-If.ensures.err k))
+
+pub plain-returns-in_ok-choice-in-If-clause-ok : goal.plain-returns-in_ok-choice-in-If-clause-ok
+plain-returns-in_ok-choice-in-If-clause-ok t c =
+    λ k. c.in_ok-rest-in-If.ensures.ok (State.plain c.args.depth c.args.inner k) _ (plain_goes c.args.depth c.args.inner k c.args.tokens.now start.If _ (sym c.statement_start.ensures ∙ c.in-If.is) (λ token. refl)) ∙ c.in_ok-choice-in-If.ensures.ok k
+
+pub plain-returns-in_err-rest-in-For-clause-err : goal.plain-returns-in_err-rest-in-For-clause-err
+plain-returns-in_err-rest-in-For-clause-err t c =
+    err_same _ c.from_residual-in_err-rest-in-For.result c.in_err-rest-in-For.field-0.0 c.from_residual-in_err-rest-in-For.ensures.1
+    (λ k. c.in_err-rest-in-For.ensures.err (State.plain c.args.depth c.args.inner k) _ (plain_goes c.args.depth c.args.inner k c.args.tokens.now start.For _ (sym c.statement_start.ensures ∙ c.in-For.is) (λ token. refl)))
+
+pub plain-for_parts-requires : goal.plain-for_parts-requires
+plain-for_parts-requires t c =
+    let small : c.args.depth ≤ 64 = leb-true c.args.depth 64 c.in_ok-rest-in-For.ensures.within in
+    (omega (arith, c.decreases, c.in_ok-rest-in-For.ensures.shorter), omega (arith, small, c.requires.inner))
+
+pub plain-returns-in_err-turns-in-For-clause-err : goal.plain-returns-in_err-turns-in-For-clause-err
+plain-returns-in_err-turns-in-For-clause-err t c =
+    err_same _ c.from_residual-in_err-turns-in-For.result c.in_err-turns-in-For.field-0.0 c.from_residual-in_err-turns-in-For.ensures.1
+    (λ k. refused_on _ (c.in_ok-rest-in-For.ensures.ok (State.plain c.args.depth c.args.inner k) _ (plain_goes c.args.depth c.args.inner k c.args.tokens.now start.For _ (sym c.statement_start.ensures ∙ c.in-For.is) (λ token. refl))) (c.in_err-turns-in-For.ensures.err k))
+
+pub plain-returns-in_ok-turns-in-For-clause-ok : goal.plain-returns-in_ok-turns-in-For-clause-ok
+plain-returns-in_ok-turns-in-For-clause-ok t c =
+    λ k. c.in_ok-rest-in-For.ensures.ok (State.plain c.args.depth c.args.inner k) _ (plain_goes c.args.depth c.args.inner k c.args.tokens.now start.For _ (sym c.statement_start.ensures ∙ c.in-For.is) (λ token. refl)) ∙ c.in_ok-turns-in-For.ensures.ok k
+
+pub plain-returns-in_err-rest-in-Split-clause-err : goal.plain-returns-in_err-rest-in-Split-clause-err
+plain-returns-in_err-rest-in-Split-clause-err t c =
+    err_same _ c.from_residual-in_err-rest-in-Split.result c.in_err-rest-in-Split.field-0.0 c.from_residual-in_err-rest-in-Split.ensures.1
+    (λ k. c.in_err-rest-in-Split.ensures.err (State.plain c.args.depth c.args.inner k) _ (plain_goes c.args.depth c.args.inner k c.args.tokens.now start.Split _ (sym c.statement_start.ensures ∙ c.in-Split.is) (λ token. refl)))
+
+pub plain-split_parts-requires : goal.plain-split_parts-requires
+plain-split_parts-requires t c =
+    let small : c.args.depth ≤ 64 = leb-true c.args.depth 64 c.in_ok-rest-in-Split.ensures.within in
+    (omega (arith, c.decreases, c.in_ok-rest-in-Split.ensures.shorter), omega (arith, small, c.requires.inner))
+
+pub plain-returns-in_err-split-in-Split-clause-err : goal.plain-returns-in_err-split-in-Split-clause-err
+plain-returns-in_err-split-in-Split-clause-err t c =
+    err_same _ c.from_residual-in_err-split-in-Split.result c.in_err-split-in-Split.field-0.0 c.from_residual-in_err-split-in-Split.ensures.1
+    (λ k. refused_on _ (c.in_ok-rest-in-Split.ensures.ok (State.plain c.args.depth c.args.inner k) _ (plain_goes c.args.depth c.args.inner k c.args.tokens.now start.Split _ (sym c.statement_start.ensures ∙ c.in-Split.is) (λ token. refl))) (c.in_err-split-in-Split.ensures.err k))
+
+pub plain-returns-in_ok-split-in-Split-clause-ok : goal.plain-returns-in_ok-split-in-Split-clause-ok
+plain-returns-in_ok-split-in-Split-clause-ok t c =
+    λ k. c.in_ok-rest-in-Split.ensures.ok (State.plain c.args.depth c.args.inner k) _ (plain_goes c.args.depth c.args.inner k c.args.tokens.now start.Split _ (sym c.statement_start.ensures ∙ c.in-Split.is) (λ token. refl)) ∙ c.in_ok-split-in-Split.ensures.ok k
+
+pub plain-returns-in_err-rest-in-While-clause-err : goal.plain-returns-in_err-rest-in-While-clause-err
+plain-returns-in_err-rest-in-While-clause-err t c =
+    err_same _ c.from_residual-in_err-rest-in-While.result c.in_err-rest-in-While.field-0.0 c.from_residual-in_err-rest-in-While.ensures.1
+    (λ k. c.in_err-rest-in-While.ensures.err (State.plain c.args.depth c.args.inner k) _ (plain_goes c.args.depth c.args.inner k c.args.tokens.now start.While _ (sym c.statement_start.ensures ∙ c.in-While.is) (λ token. refl)))
+
+pub plain-returns-in_err-test-in-While-clause-err : goal.plain-returns-in_err-test-in-While-clause-err
+plain-returns-in_err-test-in-While-clause-err t c =
+    err_same _ c.from_residual-in_err-test-in-While.result c.in_err-test-in-While.field-0.0 c.from_residual-in_err-test-in-While.ensures.1
+    (λ k. refused_on _ (c.in_ok-rest-in-While.ensures.ok (State.plain c.args.depth c.args.inner k) _ (plain_goes c.args.depth c.args.inner k c.args.tokens.now start.While _ (sym c.statement_start.ensures ∙ c.in-While.is) (λ token. refl))) (c.in_err-test-in-While.ensures.err (λ test. body c.args.depth (λ inside. k (statement.While test inside)))))
+
+pub plain-body-requires : goal.plain-body-requires
+plain-body-requires t c =
+    let small : c.args.depth ≤ 64 = leb-true c.args.depth 64 c.in_ok-rest-in-While.ensures.within in
+    (omega (arith, c.decreases, c.in_ok-rest-in-While.ensures.shorter, c.in_ok-test-in-While.ensures.shorter), omega (arith, small, c.requires.inner))
+
+pub plain-returns-in_err-inside-in-While-clause-err : goal.plain-returns-in_err-inside-in-While-clause-err
+plain-returns-in_err-inside-in-While-clause-err t c =
+    err_same _ c.from_residual-in_err-inside-in-While.result c.in_err-inside-in-While.field-0.0 c.from_residual-in_err-inside-in-While.ensures.1
+    (λ k. refused_on _ (c.in_ok-rest-in-While.ensures.ok (State.plain c.args.depth c.args.inner k) _ (plain_goes c.args.depth c.args.inner k c.args.tokens.now start.While _ (sym c.statement_start.ensures ∙ c.in-While.is) (λ token. refl)) ∙ c.in_ok-test-in-While.ensures.ok (λ test. body c.args.depth (λ inside. k (statement.While test inside)))) (c.in_err-inside-in-While.ensures.err (λ inside. k (statement.While c.in_ok-test-in-While.test inside))))
+
+pub plain-returns-in_ok-body-in-While-clause-ok : goal.plain-returns-in_ok-body-in-While-clause-ok
+plain-returns-in_ok-body-in-While-clause-ok t c =
+    λ k. c.in_ok-rest-in-While.ensures.ok (State.plain c.args.depth c.args.inner k) _ (plain_goes c.args.depth c.args.inner k c.args.tokens.now start.While _ (sym c.statement_start.ensures ∙ c.in-While.is) (λ token. refl)) ∙ (c.in_ok-test-in-While.ensures.ok (λ test. body c.args.depth (λ inside. k (statement.While test inside))) ∙ (c.in_ok-inside-in-While.ensures.ok (λ inside. k (statement.While c.in_ok-test-in-While.test inside)) ∙ ap (λ s. answer c.args.self.length (k (statement.While c.in_ok-test-in-While.test s)) c.in_ok-inside-in-While.rest.now) (sym c.in_ok-body-in-While.ensures)))
+
+pub plain-flat-requires : goal.plain-flat-requires
+plain-flat-requires t c =
+    sym c.statement_start.ensures ∙ c.in-Flat.is
+
+pub plain-returns-in_err-flat-in-Flat-clause-err : goal.plain-returns-in_err-flat-in-Flat-clause-err
+plain-returns-in_err-flat-in-Flat-clause-err t c =
+    err_same _ c.from_residual-in_err-flat-in-Flat.result c.in_err-flat-in-Flat.field-0.0 c.from_residual-in_err-flat-in-Flat.ensures.1
+    (λ k. c.in_err-flat-in-Flat.ensures.err c.args.inner k)
+
+pub plain-returns-in_ok-flat-in-Flat-clause-ok : goal.plain-returns-in_ok-flat-in-Flat-clause-ok
+plain-returns-in_ok-flat-in-Flat-clause-ok t c =
+    λ k. c.in_ok-flat-in-Flat.ensures.ok c.args.inner k
+
+pub statement-returns-in_err-rest-clause-err : goal.statement-returns-in_err-rest-clause-err
+statement-returns-in_err-rest-clause-err t c =
+    err_same _ c.from_residual.result c.in_err-rest.field-0.0 c.from_residual.ensures.1
+    (λ before k. c.in_err-rest.ensures.err (State.statements c.args.depth before k) _ (declaration_goes c.args.depth before k c.args.tokens.now c.requires.more (sym c.is_next_word.ensures ∙ c.if-is_next_word.true)))
+
+pub statement-returns-in_err-declaration-clause-err : goal.statement-returns-in_err-declaration-clause-err
+statement-returns-in_err-declaration-clause-err t c =
+    err_same _ c.from_residual-in_err-declaration.result c.in_err-declaration.field-0.0 c.from_residual-in_err-declaration.ensures.1
+    (λ before k. refused_on _ (c.in_ok-rest.ensures.ok (State.statements c.args.depth before k) _ (declaration_goes c.args.depth before k c.args.tokens.now c.requires.more (sym c.is_next_word.ensures ∙ c.if-is_next_word.true))) (c.in_err-declaration.ensures.err (with_semicolon (λ s. State.statements c.args.depth (before ++ s ∷ []) k))))
+
+pub statement-returns-in_err-rest-2-clause-err : goal.statement-returns-in_err-rest-2-clause-err
+statement-returns-in_err-rest-2-clause-err t c =
+    err_same _ c.from_residual-in_err-rest-2.result c.in_err-rest-2.field-0.0 c.from_residual-in_err-rest-2.ensures.1
+    (λ before k. refused_on _ (c.in_ok-rest.ensures.ok (State.statements c.args.depth before k) _ (declaration_goes c.args.depth before k c.args.tokens.now c.requires.more (sym c.is_next_word.ensures ∙ c.if-is_next_word.true)) ∙ c.in_ok-declaration.ensures.ok (with_semicolon (λ s. State.statements c.args.depth (before ++ s ∷ []) k))) (c.in_err-rest-2.ensures.err (State.statements c.args.depth (before ++ c.in_ok-declaration.declaration ∷ []) k)))
+
+pub statement-returns-in_ok-rest-2-clause-ok : goal.statement-returns-in_ok-rest-2-clause-ok
+statement-returns-in_ok-rest-2-clause-ok t c =
+    λ before k. c.in_ok-rest.ensures.ok (State.statements c.args.depth before k) _ (declaration_goes c.args.depth before k c.args.tokens.now c.requires.more (sym c.is_next_word.ensures ∙ c.if-is_next_word.true)) ∙ (c.in_ok-declaration.ensures.ok (with_semicolon (λ s. State.statements c.args.depth (before ++ s ∷ []) k)) ∙ c.in_ok-rest-2.ensures.ok (State.statements c.args.depth (before ++ c.in_ok-declaration.declaration ∷ []) k))
+
+pub statement-returns-in_err-statement-clause-err : goal.statement-returns-in_err-statement-clause-err
+statement-returns-in_err-statement-clause-err t c =
+    err_same _ c.from_residual-in_err-statement.result c.in_err-statement.field-0.0 c.from_residual-in_err-statement.ensures.1
+    (λ before k. refused_on _ (plain_same c.args.self.length c.args.depth before k c.args.tokens.now c.requires.more (sym c.is_next_word.ensures ∙ c.if-is_next_word.false)) (c.in_err-statement.ensures.err (λ s. State.statements c.args.depth (before ++ s ∷ []) k)))
+
+pub statement-returns-in_ok-statement-clause-ok : goal.statement-returns-in_ok-statement-clause-ok
+statement-returns-in_ok-statement-clause-ok t c =
+    λ before k. plain_same c.args.self.length c.args.depth before k c.args.tokens.now c.requires.more (sym c.is_next_word.ensures ∙ c.if-is_next_word.false) ∙ c.in_ok-statement.ensures.ok (λ s. State.statements c.args.depth (before ++ s ∷ []) k)
+
+pub statements-returns-in_err-statement-clause-err : goal.statements-returns-in_err-statement-clause-err
+statements-returns-in_err-statement-clause-err t c =
+    err_same _ c.from_residual.result c.in_err-statement.field-0.0 c.from_residual.ensures.1
+    (λ k. refused_on _ (c.loop-rest.invariant.reads k) (c.in_err-statement.ensures.err c.loop-rest.statements k))
+
+pub statements-loop-rest-preserved : goal.statements-loop-rest-preserved
+statements-loop-rest-preserved t c =
+    record {
+      reads = λ k. c.loop-rest.invariant.reads k ∙ (c.in_ok-statement.ensures.ok c.loop-rest.statements k ∙ ap (λ xs. answer c.args.self.length (State.statements c.args.depth xs k) c.in_ok-statement.end.now) (sym c.in_ok-push.ensures.ok));
+      shorter = omega (arith, c.in_ok-statement.ensures.shorter, c.loop-rest.invariant.shorter);
+    }
+
+pub statements-returns-in_err-rest-clause-err : goal.statements-returns-in_err-rest-clause-err
+statements-returns-in_err-rest-clause-err t c =
+    err_same _ c.from_residual-in_err-rest.result c.in_err-rest.field-0.0 c.from_residual-in_err-rest.ensures.1
+    (λ k. refused_on _ (c.loop-rest.invariant.reads k) (c.in_err-rest.ensures.err (State.statements c.args.depth c.loop-rest.statements k) _ (close_goes c.args.depth c.loop-rest.statements k c.loop-rest.rest.now (sym c.is_next.ensures ∙ c.loop-rest-test.true))))
+
+pub statements-returns-clause-ok : goal.statements-returns-clause-ok
+statements-returns-clause-ok t c =
+    λ k. c.loop-rest.invariant.reads k ∙ (c.in_ok-rest.ensures.ok (State.statements c.args.depth c.loop-rest.statements k) _ (close_goes c.args.depth c.loop-rest.statements k c.loop-rest.rest.now (sym c.is_next.ensures ∙ c.loop-rest-test.true)) ∙ ap (λ at. answer c.args.self.length (k c.loop-rest.statements at) c.in_ok-rest.rest.now) (sym c.next_offset.ensures))
+
+pub if_parts-returns-in_err-test-clause-err : goal.if_parts-returns-in_err-test-clause-err
+if_parts-returns-in_err-test-clause-err t c =
+    err_same _ c.from_residual.result c.in_err-test.field-0.0 c.from_residual.ensures.1
+    (λ k. c.in_err-test.ensures.err (λ test. body c.args.depth (λ chosen. State.otherwise c.args.depth test chosen k)))
+
+pub if_parts-returns-in_err-chosen-clause-err : goal.if_parts-returns-in_err-chosen-clause-err
+if_parts-returns-in_err-chosen-clause-err t c =
+    err_same _ c.from_residual-in_err-chosen.result c.in_err-chosen.field-0.0 c.from_residual-in_err-chosen.ensures.1
+    (λ k. refused_on _ (c.in_ok-test.ensures.ok (λ test. body c.args.depth (λ chosen. State.otherwise c.args.depth test chosen k))) (c.in_err-chosen.ensures.err (λ chosen. State.otherwise c.args.depth c.in_ok-test.test chosen k)))
+
+pub if_parts-returns-in_err-other-clause-err : goal.if_parts-returns-in_err-other-clause-err
+if_parts-returns-in_err-other-clause-err t c =
+    err_same _ c.from_residual-in_err-other.result c.in_err-other.field-0.0 c.from_residual-in_err-other.ensures.1
+    (λ k. refused_on _ (c.in_ok-test.ensures.ok (λ test. body c.args.depth (λ chosen. State.otherwise c.args.depth test chosen k)) ∙ c.in_ok-chosen.ensures.ok (λ chosen. State.otherwise c.args.depth c.in_ok-test.test chosen k)) (c.in_err-other.ensures.err c.in_ok-test.test c.in_ok-chosen.chosen k))
+
+pub if_parts-returns-clause-ok : goal.if_parts-returns-clause-ok
+if_parts-returns-clause-ok t c =
+    λ k. rw (c.in_ok-then.ensures) (c.in_ok-test.ensures.ok (λ test. body c.args.depth (λ chosen. State.otherwise c.args.depth test chosen k)) ∙ (c.in_ok-chosen.ensures.ok (λ chosen. State.otherwise c.args.depth c.in_ok-test.test chosen k) ∙ c.in_ok-other.ensures.ok c.in_ok-test.test c.in_ok-chosen.chosen k))
+
+pub otherwise-returns-in_err-rest-clause-err : goal.otherwise-returns-in_err-rest-clause-err
+otherwise-returns-in_err-rest-clause-err t c =
+    err_same _ c.from_residual.result c.in_err-rest.field-0.0 c.from_residual.ensures.1
+    (λ test chosen k. c.in_err-rest.ensures.err (State.otherwise c.args.depth test chosen k) _ (else_goes c.args.depth test chosen k c.args.tokens.now (sym c.is_next_word.ensures ∙ c.if-is_next_word.true)))
+
+pub otherwise-returns-in_err-inside-clause-err : goal.otherwise-returns-in_err-inside-clause-err
+otherwise-returns-in_err-inside-clause-err t c =
+    err_same _ c.from_residual-in_err-inside.result c.in_err-inside.field-0.0 c.from_residual-in_err-inside.ensures.1
+    (λ test chosen k. refused_on _ (c.in_ok-rest.ensures.ok (State.otherwise c.args.depth test chosen k) _ (else_goes c.args.depth test chosen k c.args.tokens.now (sym c.is_next_word.ensures ∙ c.if-is_next_word.true))) (c.in_err-inside.ensures.err (λ other. k (statement.If test chosen (Some other)))))
+
+pub otherwise-returns-in_ok-other-clause-ok : goal.otherwise-returns-in_ok-other-clause-ok
+otherwise-returns-in_ok-other-clause-ok t c =
+    λ test chosen k. rw (c.in_ok-other.ensures) (c.in_ok-rest.ensures.ok (State.otherwise c.args.depth test chosen k) _ (else_goes c.args.depth test chosen k c.args.tokens.now (sym c.is_next_word.ensures ∙ c.if-is_next_word.true)) ∙ c.in_ok-inside.ensures.ok (λ other. k (statement.If test chosen (Some other))))
+
+pub otherwise-returns-else-is_next_word-clause-ok : goal.otherwise-returns-else-is_next_word-clause-ok
+otherwise-returns-else-is_next_word-clause-ok t c =
+    λ test chosen k. no_else_same c.args.self.length c.args.depth test chosen k c.args.tokens.now (sym c.is_next_word.ensures ∙ c.if-is_next_word.false)
+
+pub for_parts-returns-in_err-first-clause-err : goal.for_parts-returns-in_err-first-clause-err
+for_parts-returns-in_err-first-clause-err t c =
+    err_same _ c.from_residual.result c.in_err-first.field-0.0 c.from_residual.ensures.1
+    (λ k. c.in_err-first.ensures.err (λ first test last. body c.args.depth (λ inside. k (statement.For first test last inside))))
+
+pub for_parts-returns-in_err-inside-clause-err : goal.for_parts-returns-in_err-inside-clause-err
+for_parts-returns-in_err-inside-clause-err t c =
+    err_same _ c.from_residual-in_err-inside.result c.in_err-inside.field-0.0 c.from_residual-in_err-inside.ensures.1
+    (λ k. refused_on _ (c.in_ok-first.ensures.ok (λ first test last. body c.args.depth (λ inside. k (statement.For first test last inside)))) (c.in_err-inside.ensures.err (λ inside. k (statement.For c.in_ok-first.first c.in_ok-first.test c.in_ok-first.step inside))))
+
+pub for_parts-returns-clause-ok : goal.for_parts-returns-clause-ok
+for_parts-returns-clause-ok t c =
+    λ k. rw (c.in_ok-first-2.ensures, c.in_ok-step.ensures, c.in_ok-body.ensures) (c.in_ok-first.ensures.ok (λ first test last. body c.args.depth (λ inside. k (statement.For first test last inside))) ∙ c.in_ok-inside.ensures.ok (λ inside. k (statement.For c.in_ok-first.first c.in_ok-first.test c.in_ok-first.step inside)))
+
+pub split_parts-returns-in_err-whole-clause-err : goal.split_parts-returns-in_err-whole-clause-err
+split_parts-returns-in_err-whole-clause-err t c =
+    err_same _ c.from_residual.result c.in_err-whole.field-0.0 c.from_residual.ensures.1
+    (λ k. c.in_err-whole.ensures.err (λ whole e left right. State.statements (c.args.depth + 1) [] (λ inside close. k (statement.Split whole e left right inside close))))
+
+pub split_parts-returns-in_err-body-clause-err : goal.split_parts-returns-in_err-body-clause-err
+split_parts-returns-in_err-body-clause-err t c =
+    err_same _ c.from_residual-in_err-body.result c.in_err-body.field-0.0 c.from_residual-in_err-body.ensures.1
+    (λ k. refused_on _ (c.in_ok-whole.ensures.ok (λ whole e left right. State.statements (c.args.depth + 1) [] (λ inside close. k (statement.Split whole e left right inside close)))) (c.in_err-body.ensures.err (λ inside close. k (statement.Split c.in_ok-whole.whole c.in_ok-whole.place c.in_ok-whole.left c.in_ok-whole.right inside close))))
+
+pub split_parts-returns-clause-ok : goal.split_parts-returns-clause-ok
+split_parts-returns-clause-ok t c =
+    λ k. c.in_ok-whole.ensures.ok (λ whole e left right. State.statements (c.args.depth + 1) [] (λ inside close. k (statement.Split whole e left right inside close))) ∙ c.in_ok-body.ensures.ok (λ inside close. k (statement.Split c.in_ok-whole.whole c.in_ok-whole.place c.in_ok-whole.left c.in_ok-whole.right inside close))
