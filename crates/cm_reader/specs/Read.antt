@@ -18,6 +18,8 @@ use Rattle.cm_syntax.specs.Machine.{State, Next, goes, stops, step, finish, is_w
 use Rattle.cm_reader.specs.declared.token.LocatedToken.{LocatedToken}
 use Rattle.cm_reader.specs.declared.refusal.ReadRefusal.{ReadRefusal}
 use Rattle.cm_reader.specs.declared.refusal.ReadRefusal.TheVariants as refusal
+use Rattle.cm_reader.specs.declared.simple.Simple.{Simple}
+use Rattle.cm_reader.specs.declared.simple.Simple.TheVariants as simple
 use Rattle.cm_reader.specs.Next.{token_of, nested, binary_operator}
 
 -- the machine's answer to a text of this length, from a state on
@@ -115,6 +117,11 @@ abbrev pub parenthesized_name : (Mark → State) → State
 parenthesized_name k = State.sign_next sign.ParenOpen (State.name_next (λ x. State.sign_next sign.ParenClose (k x)))
 
 -- ---- declarations, assignments and calls
+
+-- the statement that an assignment or a call is
+abbrev pub statement_of : Simple → Stmt Name
+statement_of (simple.Assign target o e) = statement.Assign target o e
+statement_of (simple.Call call) = statement.Call call
 
 -- a declarator
 abbrev pub item_next : (Item Name → State) → State

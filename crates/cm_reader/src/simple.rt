@@ -1,9 +1,10 @@
 //! How declarations, assignments and calls are read.
-ghost use Rattle.std.specs.Prelude.{◌≡◌, ◌≤◌, ◌<◌, IfOk, IfErr, length};
-ghost use Rattle.cm_syntax.specs.Machine.{State, declaration, call, pointee, is_within};
+ghost use Rattle.std.specs.Prelude.{◌≡◌, ◌≤◌, ◌<◌, [], IfOk, IfErr, length};
+ghost use Rattle.cm_syntax.specs.Machine.{State, declarator, call, pointee, is_within};
 ghost use Rattle.cm_syntax.specs.Machine as machine;
 ghost use Rattle.cm_syntax.specs.Yield.{Quantity};
-ghost use Rattle.cm_reader.specs.Read.{Reads, Refuses, ReadsSimple, RefusesSimple, item_next};
+ghost use Rattle.cm_reader.specs.Read.{Reads, Refuses, ReadsSimple, RefusesSimple, item_next, statement_of};
+ghost use Rattle.cm_reader.specs.Read as read;
 
 use crate::cursor::Reader;
 use crate::refusal::ReadRefusal;
@@ -19,10 +20,10 @@ const MAX_ARRAY_WORDS: u32 = 16384;
 
 impl Reader {
     /// The declarators of a declaration, behind `int`.
-    pub(crate) fn declaration<'a>(self, tokens: &'a [LocatedToken]) -> Result<(Stmt<Name>, &'a [LocatedToken]), ReadRefusal>
+    pub(crate) fn declaration<'a>(self, tokens: &'a [LocatedToken]) -> Result<(List<Item<Name>>, &'a [LocatedToken]), ReadRefusal>
         ensures shorter { IfOk result (λ read. length read.1.now < length tokens.now) }
-        ensures ok { IfOk result (λ read. Reads self.length declaration tokens.now read.0 read.1.now) }
-        ensures err { IfErr result (Refuses self.length declaration tokens.now) }
+        ensures ok { IfOk result (λ read. Reads self.length (declarator []) tokens.now read.0 read.1.now) }
+        ensures err { IfErr result (Refuses self.length (declarator []) tokens.now) }
     {
         let mut items = List::new(self.alloc);
         let (first, mut rest) = self.item(tokens)?;
@@ -33,7 +34,7 @@ impl Reader {
             items.push(more)?;
             rest = end;
         }
-        Ok((Stmt::Declare(items), rest))
+        Ok((items, rest))
     }
 
     /// A declarator.
@@ -91,11 +92,37 @@ fn is_array_size(words: u32) -> bool
 
 // ---- assignments and calls
 
+/// An assignment or a call.
+#[derive(Debug, Drop)]
+pub enum Simple {
+    /// An assignment.
+    Assign {
+        /// What is written.
+        target: Target<Name>,
+        /// The binary operator of an update.
+        op: Option<Op>,
+        /// The value, or the operator's right operand.
+        value: Expr<Name>,
+    },
+    /// A call.
+    Call(Call<Name>),
+}
+
+/// The statement that an assignment or a call is.
+pub(crate) fn statement_of(simple: Simple) -> Stmt<Name>
+    ensures { result ≡ read.statement_of simple }
+{
+    match simple {
+        Simple::Assign { target, op, value } => Stmt::Assign { target, op, value },
+        Simple::Call(call) => Stmt::Call(call),
+    }
+}
+
 impl Reader {
     /// An assignment or a call. What is counted at its first token is within its limit or not.
-    pub(crate) fn simple<'a>(self, tokens: &'a [LocatedToken], fits: bool) -> Result<(Stmt<Name>, &'a [LocatedToken]), ReadRefusal>
+    pub(crate) fn simple<'a>(self, tokens: &'a [LocatedToken], fits: bool) -> Result<(Simple, &'a [LocatedToken]), ReadRefusal>
         ensures shorter { IfOk result (λ read. length read.1.now < length tokens.now) }
-        ensures ok { IfOk result (λ read. ReadsSimple self.length fits tokens.now read.0 read.1.now) }
+        ensures ok { IfOk result (λ read. ReadsSimple self.length fits tokens.now (statement_of read.0) read.1.now) }
         ensures err { IfErr result (RefusesSimple self.length fits tokens.now) }
     {
         if is_next(tokens, Sign::Star) {
@@ -119,9 +146,9 @@ impl Reader {
     }
 
     /// What follows the name that begins an assignment or a call.
-    pub(crate) fn simple_of<'a>(self, name: Mark<Name>, tokens: &'a [LocatedToken]) -> Result<(Stmt<Name>, &'a [LocatedToken]), ReadRefusal>
+    pub(crate) fn simple_of<'a>(self, name: Mark<Name>, tokens: &'a [LocatedToken]) -> Result<(Simple, &'a [LocatedToken]), ReadRefusal>
         ensures shorter { IfOk result (λ read. length read.1.now < length tokens.now) }
-        ensures ok { IfOk result (λ read. Reads self.length (State.simple_name name) tokens.now read.0 read.1.now) }
+        ensures ok { IfOk result (λ read. Reads self.length (State.simple_name name) tokens.now (statement_of read.0) read.1.now) }
         ensures err { IfErr result (Refuses self.length (State.simple_name name) tokens.now) }
     {
         if is_next(tokens, Sign::BracketOpen) {
@@ -132,7 +159,7 @@ impl Reader {
         } else if is_next(tokens, Sign::ParenOpen) {
             let rest = self.accept(tokens, true)?;
             let (call, rest) = self.call_of(name, rest)?;
-            Ok((Stmt::Call(call), rest))
+            Ok((Simple::Call(call), rest))
         } else {
             let (assignment, rest) = self.writing(Target::Scalar(name), tokens)?;
             Ok((assignment, rest))
@@ -182,9 +209,9 @@ impl Reader {
     }
 
     /// What follows the target of an assignment: its sign, and its value.
-    fn writing<'a>(self, target: Target<Name>, tokens: &'a [LocatedToken]) -> Result<(Stmt<Name>, &'a [LocatedToken]), ReadRefusal>
+    fn writing<'a>(self, target: Target<Name>, tokens: &'a [LocatedToken]) -> Result<(Simple, &'a [LocatedToken]), ReadRefusal>
         ensures shorter { IfOk result (λ read. length read.1.now < length tokens.now) }
-        ensures ok { IfOk result (λ read. Reads self.length (State.writing target) tokens.now read.0 read.1.now) }
+        ensures ok { IfOk result (λ read. Reads self.length (State.writing target) tokens.now (statement_of read.0) read.1.now) }
         ensures err { IfErr result (Refuses self.length (State.writing target) tokens.now) }
     {
         if is_next(tokens, Sign::PlusPlus) {
@@ -199,7 +226,7 @@ impl Reader {
             };
             let rest = self.accept(tokens, true)?;
             let (value, rest) = self.value(rest)?;
-            Ok((Stmt::Assign { target, op, value }, rest))
+            Ok((Simple::Assign { target, op, value }, rest))
         }
     }
 
@@ -217,11 +244,11 @@ impl Reader {
 }
 
 /// `++` adds 1, and `--` subtracts it.
-fn count_on(up: bool, target: Target<Name>) -> Stmt<Name>
-    ensures { result ≡ machine.count_on up target }
+fn count_on(up: bool, target: Target<Name>) -> Simple
+    ensures { read.statement_of result ≡ machine.count_on up target }
 {
     let op = if up { Op::Add } else { Op::Sub };
-    Stmt::Assign {
+    Simple::Assign {
         target,
         op: Some(op),
         value: Expr::Number(1),

@@ -1,13 +1,16 @@
 //! How statements are read.
 ghost use Rattle.std.specs.Prelude.{false, ◌≡◌, ◌≤◌, ◌<◌, ◌+◌, [], IfOk, IfErr, length};
 ghost use Rattle.cm_syntax.specs.declared.token.Sign.TheVariants.{BraceClose};
-ghost use Rattle.cm_syntax.specs.Machine.{State, body, spawned, for_parts, split_parts};
+ghost use Rattle.cm_syntax.specs.Machine.{State, body, spawned};
+ghost use Rattle.cm_reader.specs.declared.start.FlatStart.TheVariants as flats;
+ghost use Rattle.cm_reader.specs.declared.start.StatementStart.TheVariants as starts;
 ghost use Rattle.cm_reader.specs.declared.start.StatementStart.TheVariants.{Flat};
 ghost use Rattle.cm_reader.specs.Next as next;
-ghost use Rattle.cm_reader.specs.Read.{Reads, Refuses, ReadsFlat, RefusesFlat, ReadsStatement, RefusesStatement, ReadsTurns, RefusesTurns, ReadsParts, RefusesParts, ReadsBlock, RefusesBlock, ReadsOther, RefusesOther, if_parts};
+ghost use Rattle.cm_reader.specs.Read.{Reads, Refuses, ReadsFlat, RefusesFlat, ReadsStatement, RefusesStatement, ReadsTurns, RefusesTurns, ReadsParts, RefusesParts, ReadsBlock, RefusesBlock, ReadsOther, RefusesOther};
 
 use crate::cursor::Reader;
 use crate::refusal::ReadRefusal;
+use crate::simple::statement_of;
 use crate::start::{FlatStart, StatementStart, is_next, is_next_word, next_offset, statement_start};
 use crate::token::LocatedToken;
 use cm_syntax::{Expr, Keyword, Mark, Name, Sign, Stmt, Target};
@@ -27,50 +30,107 @@ impl Reader {
         ensures ok { IfOk result (λ read. ReadsFlat self.length depth tokens.now read.0 read.1.now) }
         ensures err { IfErr result (RefusesFlat self.length depth tokens.now) }
     {
-        let at = next_offset(tokens);
-        let fits = depth <= MAX_DEPTH;
         match start {
-            FlatStart::Name => {
-                let (name, rest) = self.counted_name(tokens, fits)?;
-                let (statement, rest) = self.flat_of(name, rest)?;
-                Ok((statement, rest))
-            }
-            FlatStart::Empty => {
-                let rest = self.accept(tokens, fits)?;
-                Ok((Stmt::Empty, rest))
-            }
-            FlatStart::Return => {
-                let rest = self.accept(tokens, fits)?;
-                let (value, rest) = self.optional_value(rest)?;
-                let rest = self.sign(rest, Sign::Semicolon)?;
-                Ok((Stmt::Return { at, value }, rest))
-            }
-            FlatStart::Print => {
-                let rest = self.accept(tokens, fits)?;
-                let (value, rest) = self.parenthesized(rest)?;
-                let rest = self.sign(rest, Sign::Semicolon)?;
-                Ok((Stmt::Print(value), rest))
-            }
-            FlatStart::Sync => {
-                let rest = self.accept(tokens, fits)?;
-                let rest = self.sign(rest, Sign::Semicolon)?;
-                Ok((Stmt::Sync { at }, rest))
-            }
-            FlatStart::Spawn => {
-                let rest = self.accept(tokens, fits)?;
-                let (spawn, rest) = self.spawned(at, None, rest)?;
-                Ok((spawn, rest))
-            }
-            FlatStart::Simple => {
-                let (simple, rest) = self.simple(tokens, fits)?;
-                let rest = self.sign(rest, Sign::Semicolon)?;
-                Ok((simple, rest))
-            }
+            FlatStart::Name => self.named_statement(tokens, depth),
+            FlatStart::Empty => self.empty_statement(tokens, depth),
+            FlatStart::Return => self.return_statement(tokens, depth),
+            FlatStart::Print => self.print_statement(tokens, depth),
+            FlatStart::Sync => self.sync_statement(tokens, depth),
+            FlatStart::Spawn => self.spawn_statement(tokens, depth),
+            FlatStart::Simple => self.simple_statement(tokens, depth),
         }
     }
 
+    /// A statement that begins with a name.
+    fn named_statement<'a>(self, tokens: &'a [LocatedToken], depth: u32) -> Result<(Stmt<Name>, &'a [LocatedToken]), ReadRefusal>
+        requires { next.statement_start tokens.now ≡ Flat flats.Name }
+        ensures shorter { IfOk result (λ read. length read.1.now < length tokens.now) }
+        ensures ok { IfOk result (λ read. ReadsFlat self.length depth tokens.now read.0 read.1.now) }
+        ensures err { IfErr result (RefusesFlat self.length depth tokens.now) }
+    {
+        let (name, rest) = self.counted_name(tokens, depth <= MAX_DEPTH)?;
+        let (statement, rest) = self.named_parts(name, rest)?;
+        Ok((statement, rest))
+    }
+
+    /// The statement `;`.
+    fn empty_statement<'a>(self, tokens: &'a [LocatedToken], depth: u32) -> Result<(Stmt<Name>, &'a [LocatedToken]), ReadRefusal>
+        requires { next.statement_start tokens.now ≡ Flat flats.Empty }
+        ensures shorter { IfOk result (λ read. length read.1.now < length tokens.now) }
+        ensures ok { IfOk result (λ read. ReadsFlat self.length depth tokens.now read.0 read.1.now) }
+        ensures err { IfErr result (RefusesFlat self.length depth tokens.now) }
+    {
+        let rest = self.accept(tokens, depth <= MAX_DEPTH)?;
+        Ok((Stmt::Empty, rest))
+    }
+
+    /// A statement that begins with `return`.
+    fn return_statement<'a>(self, tokens: &'a [LocatedToken], depth: u32) -> Result<(Stmt<Name>, &'a [LocatedToken]), ReadRefusal>
+        requires { next.statement_start tokens.now ≡ Flat flats.Return }
+        ensures shorter { IfOk result (λ read. length read.1.now < length tokens.now) }
+        ensures ok { IfOk result (λ read. ReadsFlat self.length depth tokens.now read.0 read.1.now) }
+        ensures err { IfErr result (RefusesFlat self.length depth tokens.now) }
+    {
+        let at = next_offset(tokens);
+        let rest = self.accept(tokens, depth <= MAX_DEPTH)?;
+        let (value, rest) = self.optional_value(rest)?;
+        let rest = self.sign(rest, Sign::Semicolon)?;
+        Ok((Stmt::Return { at, value }, rest))
+    }
+
+    /// A statement that begins with `print`.
+    fn print_statement<'a>(self, tokens: &'a [LocatedToken], depth: u32) -> Result<(Stmt<Name>, &'a [LocatedToken]), ReadRefusal>
+        requires { next.statement_start tokens.now ≡ Flat flats.Print }
+        ensures shorter { IfOk result (λ read. length read.1.now < length tokens.now) }
+        ensures ok { IfOk result (λ read. ReadsFlat self.length depth tokens.now read.0 read.1.now) }
+        ensures err { IfErr result (RefusesFlat self.length depth tokens.now) }
+    {
+        let rest = self.accept(tokens, depth <= MAX_DEPTH)?;
+        let (value, rest) = self.parenthesized(rest)?;
+        let rest = self.sign(rest, Sign::Semicolon)?;
+        Ok((Stmt::Print(value), rest))
+    }
+
+    /// The statement `sync;`.
+    fn sync_statement<'a>(self, tokens: &'a [LocatedToken], depth: u32) -> Result<(Stmt<Name>, &'a [LocatedToken]), ReadRefusal>
+        requires { next.statement_start tokens.now ≡ Flat flats.Sync }
+        ensures shorter { IfOk result (λ read. length read.1.now < length tokens.now) }
+        ensures ok { IfOk result (λ read. ReadsFlat self.length depth tokens.now read.0 read.1.now) }
+        ensures err { IfErr result (RefusesFlat self.length depth tokens.now) }
+    {
+        let at = next_offset(tokens);
+        let rest = self.accept(tokens, depth <= MAX_DEPTH)?;
+        let rest = self.sign(rest, Sign::Semicolon)?;
+        Ok((Stmt::Sync { at }, rest))
+    }
+
+    /// A statement that begins with `spawn`.
+    fn spawn_statement<'a>(self, tokens: &'a [LocatedToken], depth: u32) -> Result<(Stmt<Name>, &'a [LocatedToken]), ReadRefusal>
+        requires { next.statement_start tokens.now ≡ Flat flats.Spawn }
+        ensures shorter { IfOk result (λ read. length read.1.now < length tokens.now) }
+        ensures ok { IfOk result (λ read. ReadsFlat self.length depth tokens.now read.0 read.1.now) }
+        ensures err { IfErr result (RefusesFlat self.length depth tokens.now) }
+    {
+        let at = next_offset(tokens);
+        let rest = self.accept(tokens, depth <= MAX_DEPTH)?;
+        let (spawn, rest) = self.spawned(at, None, rest)?;
+        Ok((spawn, rest))
+    }
+
+    /// An assignment or a call that doesn't begin with a name.
+    fn simple_statement<'a>(self, tokens: &'a [LocatedToken], depth: u32) -> Result<(Stmt<Name>, &'a [LocatedToken]), ReadRefusal>
+        requires { next.statement_start tokens.now ≡ Flat flats.Simple }
+        ensures shorter { IfOk result (λ read. length read.1.now < length tokens.now) }
+        ensures ok { IfOk result (λ read. ReadsFlat self.length depth tokens.now read.0 read.1.now) }
+        ensures err { IfErr result (RefusesFlat self.length depth tokens.now) }
+    {
+        let (simple, rest) = self.simple(tokens, depth <= MAX_DEPTH)?;
+        let rest = self.sign(rest, Sign::Semicolon)?;
+        Ok((statement_of(simple), rest))
+    }
+
     /// What follows the name that begins a statement.
-    fn flat_of<'a>(self, name: Mark<Name>, tokens: &'a [LocatedToken]) -> Result<(Stmt<Name>, &'a [LocatedToken]), ReadRefusal>
+    fn named_parts<'a>(self, name: Mark<Name>, tokens: &'a [LocatedToken]) -> Result<(Stmt<Name>, &'a [LocatedToken]), ReadRefusal>
         ensures shorter { IfOk result (λ read. length read.1.now < length tokens.now) }
         ensures ok { IfOk result (λ read. Reads self.length (State.plain_name name) tokens.now read.0 read.1.now) }
         ensures err { IfErr result (Refuses self.length (State.plain_name name) tokens.now) }
@@ -82,7 +142,7 @@ impl Reader {
         } else {
             let (simple, rest) = self.simple_of(name, tokens)?;
             let rest = self.sign(rest, Sign::Semicolon)?;
-            Ok((simple, rest))
+            Ok((statement_of(simple), rest))
         }
     }
 
@@ -130,38 +190,44 @@ impl Reader {
     }
 
     /// The first part of a `for`.
-    fn first_part<'a>(self, tokens: &'a [LocatedToken]) -> Result<(Stmt<Name>, &'a [LocatedToken]), ReadRefusal>
+    fn first_part<'a>(self, tokens: &'a [LocatedToken]) -> Result<(Boxed<Stmt<Name>>, &'a [LocatedToken]), ReadRefusal>
         ensures shorter { IfOk result (λ read. length read.1.now ≤ length tokens.now) }
         ensures ok { IfOk result (λ read. Reads self.length State.first_part tokens.now read.0 read.1.now) }
         ensures err { IfErr result (Refuses self.length State.first_part tokens.now) }
     {
         if is_next(tokens, Sign::Semicolon) {
-            Ok((Stmt::Empty, tokens))
+            let empty = Boxed::new(self.alloc, Stmt::Empty)?;
+            Ok((empty, tokens))
         } else if is_next_word(tokens, Keyword::Int) {
             let rest = self.accept(tokens, true)?;
-            let (declaration, rest) = self.declaration(rest)?;
+            let (items, rest) = self.declaration(rest)?;
+            let declaration = Boxed::new(self.alloc, Stmt::Declare(items))?;
             Ok((declaration, rest))
         } else {
             let (simple, rest) = self.simple(tokens, true)?;
-            Ok((simple, rest))
+            let statement = Boxed::new(self.alloc, statement_of(simple))?;
+            Ok((statement, rest))
         }
     }
 
     /// The last part of a `for`.
-    fn last_part<'a>(self, tokens: &'a [LocatedToken]) -> Result<(Stmt<Name>, &'a [LocatedToken]), ReadRefusal>
+    fn last_part<'a>(self, tokens: &'a [LocatedToken]) -> Result<(Boxed<Stmt<Name>>, &'a [LocatedToken]), ReadRefusal>
         ensures shorter { IfOk result (λ read. length read.1.now ≤ length tokens.now) }
         ensures ok { IfOk result (λ read. Reads self.length State.last_part tokens.now read.0 read.1.now) }
         ensures err { IfErr result (Refuses self.length State.last_part tokens.now) }
     {
         if is_next(tokens, Sign::ParenClose) {
-            return Ok((Stmt::Empty, tokens));
+            let empty = Boxed::new(self.alloc, Stmt::Empty)?;
+            Ok((empty, tokens))
+        } else {
+            let (simple, rest) = self.simple(tokens, true)?;
+            let statement = Boxed::new(self.alloc, statement_of(simple))?;
+            Ok((statement, rest))
         }
-        let (simple, rest) = self.simple(tokens, true)?;
-        Ok((simple, rest))
     }
 
     /// What stands between `for` and its body: the three parts between parentheses.
-    fn turns<'a>(self, tokens: &'a [LocatedToken]) -> Result<(Stmt<Name>, Option<Expr<Name>>, Stmt<Name>, &'a [LocatedToken]), ReadRefusal>
+    fn turns<'a>(self, tokens: &'a [LocatedToken]) -> Result<(Boxed<Stmt<Name>>, Option<Expr<Name>>, Boxed<Stmt<Name>>, &'a [LocatedToken]), ReadRefusal>
         ensures shorter { IfOk result (λ read. length read.3.now < length tokens.now) }
         ensures ok { IfOk result (λ read. ReadsTurns self.length tokens.now read.0 read.1 read.2 read.3.now) }
         ensures err { IfErr result (RefusesTurns self.length tokens.now) }
@@ -229,9 +295,9 @@ impl Reader {
     {
         if is_next_word(tokens, Keyword::Int) {
             let rest = self.accept(tokens, depth <= MAX_DEPTH)?;
-            let (declaration, rest) = self.declaration(rest)?;
+            let (items, rest) = self.declaration(rest)?;
             let rest = self.sign(rest, Sign::Semicolon)?;
-            Ok((declaration, rest))
+            Ok((Stmt::Declare(items), rest))
         } else {
             let (statement, rest) = self.plain(tokens, depth, depth + 1)?;
             Ok((statement, rest))
@@ -242,45 +308,33 @@ impl Reader {
     /// block.
     #[cycle(statement)]
     fn plain<'a>(self, tokens: &'a [LocatedToken], depth: u32, inner: u32) -> Result<(Stmt<Name>, &'a [LocatedToken]), ReadRefusal>
-        requires depth { depth ≤ 65 }
-        requires inner { inner ≤ depth + 1 }
+        requires { inner ≤ depth + 1 }
         ensures shorter { IfOk result (λ read. length read.1.now < length tokens.now) }
         ensures ok { IfOk result (λ read. Reads self.length (State.plain depth inner) tokens.now read.0 read.1.now) }
         ensures err { IfErr result (Refuses self.length (State.plain depth inner) tokens.now) }
     {
         match statement_start(tokens) {
-            StatementStart::Block => {
-                let rest = self.accept(tokens, depth <= MAX_DEPTH)?;
-                let (inside, _, rest) = self.statements(rest, inner)?;
-                Ok((Stmt::Block(inside), rest))
-            }
-            StatementStart::If => {
-                let rest = self.accept(tokens, depth <= MAX_DEPTH)?;
-                let (choice, rest) = self.if_parts(rest, depth)?;
-                Ok((choice, rest))
-            }
-            StatementStart::While => {
-                let rest = self.accept(tokens, depth <= MAX_DEPTH)?;
-                let (test, rest) = self.parenthesized(rest)?;
-                let (inside, rest) = self.body(rest, depth)?;
-                let body = Boxed::new(self.alloc, inside)?;
-                Ok((Stmt::While { test, body }, rest))
-            }
-            StatementStart::For => {
-                let rest = self.accept(tokens, depth <= MAX_DEPTH)?;
-                let (turns, rest) = self.for_parts(rest, depth)?;
-                Ok((turns, rest))
-            }
-            StatementStart::Split => {
-                let rest = self.accept(tokens, depth <= MAX_DEPTH)?;
-                let (split, rest) = self.split_parts(rest, depth)?;
-                Ok((split, rest))
-            }
-            StatementStart::Flat(start) => {
-                let (flat, rest) = self.flat(tokens, start, depth)?;
-                Ok((flat, rest))
-            }
+            StatementStart::Block => self.block(tokens, depth, inner),
+            StatementStart::If => self.if_statement(tokens, depth),
+            StatementStart::While => self.while_statement(tokens, depth),
+            StatementStart::For => self.for_statement(tokens, depth),
+            StatementStart::Split => self.split_statement(tokens, depth),
+            StatementStart::Flat(start) => self.flat(tokens, start, depth),
         }
+    }
+
+    /// A block at this depth, whose statements are at depth `inner`.
+    #[cycle(statement)]
+    fn block<'a>(self, tokens: &'a [LocatedToken], depth: u32, inner: u32) -> Result<(Stmt<Name>, &'a [LocatedToken]), ReadRefusal>
+        requires inner { inner ≤ depth + 1 }
+        requires start { next.statement_start tokens.now ≡ starts.Block }
+        ensures shorter { IfOk result (λ read. length read.1.now < length tokens.now) }
+        ensures ok { IfOk result (λ read. Reads self.length (State.plain depth inner) tokens.now read.0 read.1.now) }
+        ensures err { IfErr result (Refuses self.length (State.plain depth inner) tokens.now) }
+    {
+        let rest = self.accept(tokens, depth <= MAX_DEPTH)?;
+        let (inside, _, rest) = self.statements(rest, inner)?;
+        Ok((Stmt::Block(inside), rest))
     }
 
     /// A body of a statement at this depth.
@@ -295,18 +349,19 @@ impl Reader {
         Ok((statement, rest))
     }
 
-    /// What follows the word `if` at this depth.
+    /// A statement that begins with `if`.
     #[cycle(statement)]
-    fn if_parts<'a>(self, tokens: &'a [LocatedToken], depth: u32) -> Result<(Stmt<Name>, &'a [LocatedToken]), ReadRefusal>
-        requires { depth ≤ 64 }
+    fn if_statement<'a>(self, tokens: &'a [LocatedToken], depth: u32) -> Result<(Stmt<Name>, &'a [LocatedToken]), ReadRefusal>
+        requires { next.statement_start tokens.now ≡ starts.If }
         ensures shorter { IfOk result (λ read. length read.1.now < length tokens.now) }
-        ensures ok { IfOk result (λ read. Reads self.length (if_parts depth) tokens.now read.0 read.1.now) }
-        ensures err { IfErr result (Refuses self.length (if_parts depth) tokens.now) }
+        ensures ok { IfOk result (λ read. ReadsFlat self.length depth tokens.now read.0 read.1.now) }
+        ensures err { IfErr result (RefusesFlat self.length depth tokens.now) }
     {
-        let (test, rest) = self.parenthesized(tokens)?;
+        let rest = self.accept(tokens, depth <= MAX_DEPTH)?;
+        let (test, rest) = self.parenthesized(rest)?;
         let (chosen, rest) = self.body(rest, depth)?;
-        let (other, rest) = self.otherwise(rest, depth)?;
         let then = Boxed::new(self.alloc, chosen)?;
+        let (other, rest) = self.otherwise(rest, depth)?;
         Ok((Stmt::If { test, then, other }, rest))
     }
 
@@ -328,31 +383,46 @@ impl Reader {
         }
     }
 
-    /// What follows the word `for` at this depth.
+    /// A statement that begins with `while`.
     #[cycle(statement)]
-    fn for_parts<'a>(self, tokens: &'a [LocatedToken], depth: u32) -> Result<(Stmt<Name>, &'a [LocatedToken]), ReadRefusal>
-        requires { depth ≤ 64 }
+    fn while_statement<'a>(self, tokens: &'a [LocatedToken], depth: u32) -> Result<(Stmt<Name>, &'a [LocatedToken]), ReadRefusal>
+        requires { next.statement_start tokens.now ≡ starts.While }
         ensures shorter { IfOk result (λ read. length read.1.now < length tokens.now) }
-        ensures ok { IfOk result (λ read. Reads self.length (for_parts depth) tokens.now read.0 read.1.now) }
-        ensures err { IfErr result (Refuses self.length (for_parts depth) tokens.now) }
+        ensures ok { IfOk result (λ read. ReadsFlat self.length depth tokens.now read.0 read.1.now) }
+        ensures err { IfErr result (RefusesFlat self.length depth tokens.now) }
     {
-        let (first, test, step, rest) = self.turns(tokens)?;
+        let rest = self.accept(tokens, depth <= MAX_DEPTH)?;
+        let (test, rest) = self.parenthesized(rest)?;
         let (inside, rest) = self.body(rest, depth)?;
-        let first = Boxed::new(self.alloc, first)?;
-        let step = Boxed::new(self.alloc, step)?;
+        let body = Boxed::new(self.alloc, inside)?;
+        Ok((Stmt::While { test, body }, rest))
+    }
+
+    /// A statement that begins with `for`.
+    #[cycle(statement)]
+    fn for_statement<'a>(self, tokens: &'a [LocatedToken], depth: u32) -> Result<(Stmt<Name>, &'a [LocatedToken]), ReadRefusal>
+        requires { next.statement_start tokens.now ≡ starts.For }
+        ensures shorter { IfOk result (λ read. length read.1.now < length tokens.now) }
+        ensures ok { IfOk result (λ read. ReadsFlat self.length depth tokens.now read.0 read.1.now) }
+        ensures err { IfErr result (RefusesFlat self.length depth tokens.now) }
+    {
+        let rest = self.accept(tokens, depth <= MAX_DEPTH)?;
+        let (first, test, step, rest) = self.turns(rest)?;
+        let (inside, rest) = self.body(rest, depth)?;
         let body = Boxed::new(self.alloc, inside)?;
         Ok((Stmt::For { first, test, step, body }, rest))
     }
 
-    /// What follows the word `split` at this depth.
+    /// A statement that begins with `split`.
     #[cycle(statement)]
-    fn split_parts<'a>(self, tokens: &'a [LocatedToken], depth: u32) -> Result<(Stmt<Name>, &'a [LocatedToken]), ReadRefusal>
-        requires { depth ≤ 64 }
+    fn split_statement<'a>(self, tokens: &'a [LocatedToken], depth: u32) -> Result<(Stmt<Name>, &'a [LocatedToken]), ReadRefusal>
+        requires { next.statement_start tokens.now ≡ starts.Split }
         ensures shorter { IfOk result (λ read. length read.1.now < length tokens.now) }
-        ensures ok { IfOk result (λ read. Reads self.length (split_parts depth) tokens.now read.0 read.1.now) }
-        ensures err { IfErr result (Refuses self.length (split_parts depth) tokens.now) }
+        ensures ok { IfOk result (λ read. ReadsFlat self.length depth tokens.now read.0 read.1.now) }
+        ensures err { IfErr result (RefusesFlat self.length depth tokens.now) }
     {
-        let (whole, place, (left, right), rest) = self.parts(tokens)?;
+        let rest = self.accept(tokens, depth <= MAX_DEPTH)?;
+        let (whole, place, (left, right), rest) = self.parts(rest)?;
         let (body, close, rest) = self.statements(rest, depth + 1)?;
         Ok((Stmt::Split { whole, place, left, right, body, close }, rest))
     }

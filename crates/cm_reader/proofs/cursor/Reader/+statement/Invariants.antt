@@ -6,26 +6,35 @@ use Rattle.cm_syntax.specs.Machine.{State}
 use Rattle.cm_reader.specs.Read.{answer}
 use Rattle.cm_reader.proofs.cursor.Reader.+statement.Given as goal
 
+abbrev pub decreases-block : goal.decreases-block
+decreases-block l = 8 * length l.tokens.now
+
+abbrev pub decreases-if_statement : goal.decreases-if_statement
+decreases-if_statement l = 8 * length l.tokens.now
+
+abbrev pub decreases-while_statement : goal.decreases-while_statement
+decreases-while_statement l = 8 * length l.tokens.now
+
+abbrev pub decreases-for_statement : goal.decreases-for_statement
+decreases-for_statement l = 8 * length l.tokens.now
+
+abbrev pub decreases-split_statement : goal.decreases-split_statement
+decreases-split_statement l = 8 * length l.tokens.now
+
+abbrev pub decreases-otherwise : goal.decreases-otherwise
+decreases-otherwise l = 8 * length l.tokens.now
+
 abbrev pub decreases-plain : goal.decreases-plain
-decreases-plain l = 4 * length l.tokens.now
-
-abbrev pub decreases-if_parts : goal.decreases-if_parts
-decreases-if_parts l = 4 * length l.tokens.now
-
-abbrev pub decreases-for_parts : goal.decreases-for_parts
-decreases-for_parts l = 4 * length l.tokens.now
-
-abbrev pub decreases-split_parts : goal.decreases-split_parts
-decreases-split_parts l = 4 * length l.tokens.now
+decreases-plain l = 8 * length l.tokens.now + 1
 
 abbrev pub decreases-body : goal.decreases-body
-decreases-body l = 4 * length l.tokens.now + 1
+decreases-body l = 8 * length l.tokens.now + 2
 
 abbrev pub decreases-statement : goal.decreases-statement
-decreases-statement l = 4 * length l.tokens.now + 2
+decreases-statement l = 8 * length l.tokens.now + 3
 
 abbrev pub decreases-statements : goal.decreases-statements
-decreases-statements l = 4 * length l.tokens.now + 3
+decreases-statements l = 8 * length l.tokens.now + 4
 
 abbrev pub invariant-statements-loop-rest : goal.invariant-statements-loop-rest
 invariant-statements-loop-rest l = record {
@@ -35,6 +44,3 @@ invariant-statements-loop-rest l = record {
 
 abbrev pub decreases-statements-loop-rest : goal.decreases-statements-loop-rest
 decreases-statements-loop-rest l = length l.rest
-
-abbrev pub decreases-otherwise : goal.decreases-otherwise
-decreases-otherwise l = 4 * length l.tokens.now

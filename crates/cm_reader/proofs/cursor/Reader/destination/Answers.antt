@@ -9,6 +9,7 @@ use Rattle.cm_syntax.specs.Machine.{State, item, count_on, with_semicolon, funct
 use Rattle.cm_reader.specs.Read.{answer}
 use Rattle.cm_reader.proofs.StepLaws.{err_same, refused_on, ok_map, err_map}
 use Rattle.cm_reader.proofs.StatementLaws.{spawn_into_goes, assigned_value_same}
+use Rattle.cm_reader.specs.Read.{statement_of}
 use Rattle.cm_reader.specs.declared.start.StatementStart.TheVariants as start
 use Rattle.cm_reader.specs.declared.start.FlatStart.TheVariants as flat
 use Rattle.cm_reader.specs.Next.{next_offset}
@@ -23,11 +24,11 @@ returns-in_err-rest-clause-err c =
 pub returns-in_err-spawn-clause-err : goal.returns-in_err-spawn-clause-err
 returns-in_err-spawn-clause-err c =
     err_same _ c.from_residual-in_err-spawn.result c.in_err-spawn.field-0.0 c.from_residual-in_err-spawn.ensures.1
-    (λ k. refused_on _ (c.in_ok-rest.ensures.ok (State.destination c.args.name k) _ (spawn_into_goes c.args.name k c.args.tokens.now (sym c.is_next_word.ensures ∙ c.if-is_next_word.true)) ∙ ap (λ at. answer c.args.self.length (spawned at (Some c.args.name) k) c.in_ok-rest.rest.now) (sym c.next_offset.ensures)) (c.in_err-spawn.ensures.err k))
+    (λ k. refused_on _ (c.in_ok-rest.ensures.ok (State.destination c.args.name k) _ (spawn_into_goes c.args.name k c.args.tokens.now (sym c.is_next_word.ensures ∙ c.if-is_next_word.true)) ∙ ap (λ at. answer c.args.self.length (spawned at (Some c.args.name) k) c.in_ok-rest.rest.now) (sym c.next_offset-at.ensures)) (c.in_err-spawn.ensures.err k))
 
 pub returns-in_ok-spawn-clause-ok : goal.returns-in_ok-spawn-clause-ok
 returns-in_ok-spawn-clause-ok c =
-    λ k. c.in_ok-rest.ensures.ok (State.destination c.args.name k) _ (spawn_into_goes c.args.name k c.args.tokens.now (sym c.is_next_word.ensures ∙ c.if-is_next_word.true)) ∙ (ap (λ at. answer c.args.self.length (spawned at (Some c.args.name) k) c.in_ok-rest.rest.now) (sym c.next_offset.ensures) ∙ c.in_ok-spawn.ensures.ok k)
+    λ k. c.in_ok-rest.ensures.ok (State.destination c.args.name k) _ (spawn_into_goes c.args.name k c.args.tokens.now (sym c.is_next_word.ensures ∙ c.if-is_next_word.true)) ∙ (ap (λ at. answer c.args.self.length (spawned at (Some c.args.name) k) c.in_ok-rest.rest.now) (sym c.next_offset-at.ensures) ∙ c.in_ok-spawn.ensures.ok k)
 
 pub returns-in_err-value-clause-err : goal.returns-in_err-value-clause-err
 returns-in_err-value-clause-err c =

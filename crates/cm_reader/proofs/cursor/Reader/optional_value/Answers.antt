@@ -20,6 +20,6 @@ returns-in_err-value-clause-err c =
     err_same _ c.from_residual.result c.in_err-value.field-0.0 c.from_residual.ensures.1
     (λ k. refused_on _ (some_value_same c.args.self.length k c.args.tokens.now (sym c.is_next.ensures ∙ c.if-is_next.false)) (c.in_err-value.ensures.err (λ e. k (Some e))))
 
-pub returns-in_ok-value-clause-ok : goal.returns-in_ok-value-clause-ok
-returns-in_ok-value-clause-ok c =
+pub returns-clause-ok : goal.returns-clause-ok
+returns-clause-ok c =
     λ k. some_value_same c.args.self.length k c.args.tokens.now (sym c.is_next.ensures ∙ c.if-is_next.false) ∙ c.in_ok-value.ensures.ok (λ e. k (Some e))
