@@ -10,6 +10,7 @@ ghost use Rattle.cm_syntax.specs.Machine.{capped, capped_token, nested_tokens, r
 ghost use Rattle.cm_reader.specs.Next.{token_of, nested};
 ghost use Rattle.cm_reader.specs.Found.{next_of, capped_next};
 
+use crate::cursor::MAX_SOURCE_BYTES;
 use crate::scan::{
     begins_letter, begins_space, begins_word, block_length, digits_value, is_number, is_pair,
     line_length, run_length,
@@ -19,9 +20,6 @@ use crate::token::{LocatedToken, Token};
 use cm_syntax::{Name, Sign};
 use cm_text::{List, Memory};
 use std::alloc::Global;
-
-/// The bytes of a source, at most.
-pub(crate) const MAX_SOURCE_BYTES: u32 = 65_536;
 
 /// The `(` and `[` that are open at once in a statement, at most.
 const MAX_OPEN_BRACKETS: u32 = 64;

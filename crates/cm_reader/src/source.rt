@@ -6,7 +6,8 @@ ghost use Rattle.cm_syntax.specs.Canonical.{canonical};
 ghost use Rattle.cm_syntax.specs.Offset.{without_offsets};
 ghost use Rattle.cm_reader.specs.Answer.{IsRefusalOf, refusal_of, Gives};
 
-use crate::lexer::{MAX_SOURCE_BYTES, tokens};
+use crate::cursor::MAX_SOURCE_BYTES;
+use crate::lexer::tokens;
 use crate::parser::parse;
 use crate::refusal::ReadRefusal;
 use cm_syntax::Tree;

@@ -1,75 +1,150 @@
-//! A text and its tokens, and the text of a tree.
-
-use crate::lexer::tokens;
-use crate::printer::write;
-use cm_syntax::{Expr, Function, Mark, Name, Op, Stmt, Tree};
-use cm_text::{List, Memory};
-use sqlite_items::Boxed;
-use std::alloc::Global;
+//! Texts with their answers, worked out by hand: a tree is told by its canonical text, a refusal by its offset.
+use crate::{ReadRefusal, read, write};
+use cm_text::Bytes;
+use std::alloc::{AllocError, Global};
 use std::test::Fail;
 
-fn name(alloc: Global, bytes: &[u8]) -> Result<Mark<Name>, Memory> {
-    Ok(Mark {
-        name: Name::of(alloc, bytes)?,
-        at: 0,
-    })
+/// What a text comes to.
+#[derive(Clone, Copy)]
+enum Answer {
+    /// It has a tree, whose canonical text is this.
+    Printed(&'static str),
+    /// No program begins so.
+    Syntax(u32),
+    /// A limit is passed.
+    Size(u32),
 }
 
-// `int main ( ) { return x ~ *p; }`, with this expression.
-fn main_of(alloc: Global, value: Expr<Name>) -> Result<Tree, Memory> {
-    let mut body = List::new(alloc);
-    body.push(Stmt::Return {
-        at: 0,
-        value: Some(value),
-    })?;
-    let mut functions = List::new(alloc);
-    functions.push(Function {
-        name: name(alloc, b"main")?,
-        cilk: false,
-        gives: true,
-        parameters: List::new(alloc),
-        body,
-        slots: List::new(alloc),
-    })?;
-    Ok(Tree {
-        functions,
-        length: 0,
-    })
+use Answer::{Printed, Size, Syntax};
+
+/// The texts of the table.
+const ROWS: [(&str, Answer); 56] = [
+    // tokens
+    ("", Syntax(0)),
+    (" \t\r\n", Syntax(4)),
+    ("/* a", Syntax(0)),
+    ("/*/", Syntax(0)),
+    ("// a", Syntax(4)),
+    ("int /* a", Syntax(4)),
+    ("const int", Syntax(0)),
+    ("012", Syntax(0)),
+    ("12a", Syntax(0)),
+    ("int f(#", Syntax(6)),
+    ("int main(){return 0;}//", Printed("int main ( ) { return 0 ; }")),
+    ("int/**/main(){/* /* */return/*/ */1;}", Printed("int main ( ) { return 1 ; }")),
+    ("int main(){int ints;ints=ints+++1;}", Syntax(29)),
+    ("int main(){int a;a=a- - -1;}", Printed("int main ( ) { int a ; a = a - - - 1 ; }")),
+    ("int main(){return 2147483647;}", Printed("int main ( ) { return 2147483647 ; }")),
+    ("int main(){return 2147483648;}", Size(18)),
+    ("int main(){return 99999999999999999999;}", Size(18)),
+    ("int 2147483648", Syntax(4)),
+    ("int main(){return 2147483648y;}", Syntax(18)),
+    // nonterminals that end too early
+    ("int", Syntax(3)),
+    ("cilk", Syntax(4)),
+    ("int f", Syntax(5)),
+    ("int f(", Syntax(6)),
+    ("int f(int", Syntax(9)),
+    ("int f(int a[", Syntax(12)),
+    ("int f(int *", Syntax(11)),
+    ("int f(int a,", Syntax(12)),
+    ("int f()", Syntax(7)),
+    ("int f(){", Syntax(8)),
+    ("int f(){int", Syntax(11)),
+    ("int f(){int a[", Syntax(14)),
+    ("int f(){a", Syntax(9)),
+    ("int f(){a=", Syntax(10)),
+    ("int f(){f(", Syntax(10)),
+    ("int f(){f(1,", Syntax(12)),
+    ("int f(){if(1);", Syntax(14)),
+    ("int f(){for(;;", Syntax(14)),
+    ("int f(){split a at 1 as l", Syntax(25)),
+    ("int f(){return 1+", Syntax(17)),
+    // what doesn't fit
+    ("int f(void, int a){}", Syntax(10)),
+    ("int f(){else;}", Syntax(8)),
+    ("int f(){if(1)int a;}", Syntax(13)),
+    ("int f(){1;}", Syntax(8)),
+    ("int f(){a+=spawn f();}", Syntax(11)),
+    ("int f(){f(&1);}", Syntax(11)),
+    // trees
+    ("int f(int *p){p[0]++;return *p;}", Printed("int f ( int p [ ] ) { * p += 1 ; return * p ; }")),
+    ("void f(void){if(1)if(2);else;}", Printed("void f ( ) { if ( 1 ) if ( 2 ) ; else ; }")),
+    ("int f(){return 1-(2-3)-4;}", Printed("int f ( ) { return 1 - ( 2 - 3 ) - 4 ; }")),
+    ("int f(){return ((1*2))+3<<-4;}", Printed("int f ( ) { return 1 * 2 + 3 << - 4 ; }")),
+    ("cilk int f(int n){int x;x=spawn f(n);sync;return x;}", Printed("cilk int f ( int n ) { int x ; x = spawn f ( n ) ; sync ; return x ; }")),
+    ("int f(){for(;;){}}", Printed("int f ( ) { for ( ; ; ) { } }")),
+    ("int f(int a[]){split a at len(a)/2 as l,r{f(l);f(&r);}}", Printed("int f ( int a [ ] ) { split a at len ( a ) / 2 as l , r { f ( l ) ; f ( & r ) ; } }")),
+    // one refusal behind another, and both at one offset
+    ("int f(){return 2147483648 2;}", Size(15)),
+    ("int f(){return 1 2147483648;}", Syntax(17)),
+    ("int f(){int a[0], b[;}", Size(14)),
+    ("int f(){int a[16385];}", Size(14)),
+];
+
+/// What a text is answered, against what it is to be.
+fn is_answered(alloc: Global, text: &[u8], answer: Answer) -> Result<bool, Fail> {
+    match (read(alloc, text), answer) {
+        (Ok(tree), Printed(printed)) => {
+            let text = write(alloc, &tree)?;
+            Ok(text.items() == printed.as_bytes())
+        }
+        (Err(ReadRefusal::Syntax { at }), Syntax(wanted)) => Ok(at == wanted),
+        (Err(ReadRefusal::Size { at }), Size(wanted)) => Ok(at == wanted),
+        _ => Ok(false),
+    }
 }
 
-// `(x - 2) * *p`
-fn product(alloc: Global) -> Result<Expr<Name>, Memory> {
-    let x = Boxed::new(alloc, Expr::Scalar(name(alloc, b"x")?))?;
-    let two = Boxed::new(alloc, Expr::Number(2))?;
-    let difference = Boxed::new(alloc, Expr::Binary(Op::Sub, x, two))?;
-    let zero = Boxed::new(alloc, Expr::Number(0))?;
-    let pointee = Boxed::new(alloc, Expr::Index(name(alloc, b"p")?, zero))?;
-    Ok(Expr::Binary(Op::Mul, difference, pointee))
+/// A text, then a piece so many times, and then a text.
+fn repeated(alloc: Global, front: &str, piece: &str, count: usize, back: &str) -> Result<String, AllocError> {
+    let mut text = String::from_str(alloc, front)?;
+    for _ in 0..count {
+        text.push_str(piece)?;
+    }
+    text.push_str(back)?;
+    Ok(text)
 }
 
 #[test]
-fn written(rt: HostRuntime) -> Result<(), Fail> {
-    let alloc = rt.alloc();
-    let tree = main_of(alloc, product(alloc)?)?;
-    let text = write(alloc, &tree)?;
-    assert_eq!(rt;
-        text.items(),
-        b"int main ( ) { return ( x - 2 ) * * p ; }".as_slice()
-    );
+fn texts(rt: HostRuntime) -> Result<(), Fail> {
+    for (text, answer) in ROWS {
+        assert!(rt; is_answered(rt.alloc(), text.as_bytes(), answer)?, "{text}");
+    }
+    assert!(rt; is_answered(rt.alloc(), &[0x80], Syntax(0))?);
     Ok(())
 }
 
+/// Whether a text with so many pieces is accepted.
+fn is_accepted(alloc: Global, front: &str, piece: &str, count: usize, back: &str) -> Result<bool, Fail> {
+    let text = repeated(alloc, front, piece, count, back)?;
+    Ok(read(alloc, text.as_bytes()).is_ok())
+}
+
 #[test]
-fn lexed(rt: HostRuntime) -> Result<(), Fail> {
+fn limits(rt: HostRuntime) -> Result<(), Fail> {
     let alloc = rt.alloc();
-    let list = tokens(alloc, b"a+++b<<=c//d\n0 1234567890123 /* /* */ const #")?;
-    let mut offsets = Vec::new(alloc);
-    for token in list.items() {
-        offsets.push(token.at)?;
+    // 63 loops and an empty statement, 64 brackets, 64 operators; and one more
+    let rows = [
+        ("int f(){", "while(1)", 63, ";}"),
+        ("int f(){return ", "-", 64, "1;}"),
+        ("int f(){return 0", "+0", 64, ";}"),
+        ("int f(){return f(0", ",0", 4000, ");}"),
+        ("int f(){", ";", 65527, "}"),
+    ];
+    for (front, piece, count, back) in rows {
+        assert!(rt; is_accepted(alloc, front, piece, count, back)?, "{front}");
     }
-    assert_eq!(rt;
-        offsets.as_slice(),
-        [0, 1, 3, 4, 5, 8, 13, 15, 38, 44].as_slice()
-    );
+    let deep = repeated(alloc, "int f(){", "while(1)", 64, ";}")?;
+    assert!(rt; is_answered(alloc, deep.as_bytes(), Size(520))?);
+    let signs = repeated(alloc, "int f(){return ", "-", 65, "1;}")?;
+    assert!(rt; is_answered(alloc, signs.as_bytes(), Size(79))?);
+    let open = repeated(alloc, "int f(){return ", "(", 65, "")?;
+    assert!(rt; is_answered(alloc, open.as_bytes(), Size(79))?);
+    let opened = repeated(alloc, "int f(){return ", "(", 64, "")?;
+    assert!(rt; is_answered(alloc, opened.as_bytes(), Syntax(79))?);
+    let long = repeated(alloc, "int f(){", ";", 65528, "}")?;
+    assert!(rt; is_answered(alloc, long.as_bytes(), Size(65536))?);
+    let unfinished = repeated(alloc, "int f(){", ";", 65528, "")?;
+    assert!(rt; is_answered(alloc, unfinished.as_bytes(), Syntax(65536))?);
     Ok(())
 }

@@ -1,0 +1,21 @@
+use Rattle.std.proofs.Common.{subst, sym, ap, refl, ◌∙◌, ◌++◌, ◌∷◌, [], true, false, arith, pos, Option, None, Some}
+use Rattle.cm_syntax.specs.declared.stmt.Stmt.TheVariants as statement
+use Rattle.cm_syntax.specs.declared.stmt.Target.TheVariants as target
+use Rattle.cm_syntax.specs.declared.stmt.Slot.TheVariants as slot
+use Rattle.cm_syntax.specs.declared.token.Sign.TheVariants as sign
+use Rattle.cm_syntax.specs.declared.token.Keyword.TheVariants as keyword
+use Rattle.cm_syntax.specs.Yield.{Quantity}
+use Rattle.cm_syntax.specs.Machine.{State, item, count_on, with_semicolon, function_of}
+use Rattle.cm_reader.specs.Read.{answer, Goes}
+use Rattle.cm_reader.proofs.StepLaws.{err_same, refused_on, ok_map, err_map}
+use Rattle.cm_reader.proofs.SimpleLaws.{words_goes, words_stuck}
+use Rattle.cm_reader.proofs.cursor.Reader.array_words.Goals as goal
+
+pub returns-in_err-rest-clause-err : goal.returns-in_err-rest-clause-err
+returns-in_err-rest-clause-err c =
+    err_same _ c.from_residual.result c.in_err-rest.field-0.0 c.from_residual.ensures.1
+    (λ k. c.in_err-rest.ensures.err (State.array_words k) _ (subst (λ fits. Goes (State.array_words k) c.args.tokens.now fits (k c.in-Some.words)) (sym c.is_array_size.ensures) (words_goes c.in-Some.words k c.args.tokens.now (sym c.next_number.ensures ∙ c.in-Some.is))))
+
+pub returns-clause-ok : goal.returns-clause-ok
+returns-clause-ok c =
+    λ k. c.in_ok-rest.ensures.ok (State.array_words k) _ (subst (λ fits. Goes (State.array_words k) c.args.tokens.now fits (k c.in-Some.words)) (sym c.is_array_size.ensures) (words_goes c.in-Some.words k c.args.tokens.now (sym c.next_number.ensures ∙ c.in-Some.is)))

@@ -1,0 +1,36 @@
+use Rattle.std.proofs.Common.{sym, ap, refl, ◌∙◌, ◌++◌, ◌∷◌, [], true, false, arith, pos, Option, None, Some}
+use Rattle.cm_syntax.specs.declared.stmt.Stmt.TheVariants as statement
+use Rattle.cm_syntax.specs.declared.stmt.Target.TheVariants as target
+use Rattle.cm_syntax.specs.declared.stmt.Slot.TheVariants as slot
+use Rattle.cm_syntax.specs.declared.token.Sign.TheVariants as sign
+use Rattle.cm_syntax.specs.declared.token.Keyword.TheVariants as keyword
+use Rattle.cm_syntax.specs.Yield.{Quantity}
+use Rattle.cm_syntax.specs.Machine.{State, item, count_on, with_semicolon, function_of}
+use Rattle.cm_reader.specs.Read.{answer}
+use Rattle.cm_reader.proofs.StepLaws.{err_same, refused_on, ok_map, err_map}
+use Rattle.cm_reader.proofs.StatementLaws.{plain_goes}
+use Rattle.cm_reader.specs.Read.{statement_of}
+use Rattle.cm_reader.specs.declared.start.StatementStart.TheVariants as start
+use Rattle.cm_reader.specs.declared.start.FlatStart.TheVariants as flat
+use Rattle.cm_reader.specs.Next.{next_offset}
+use Rattle.cm_syntax.specs.Machine.{spawned}
+use Rattle.cm_reader.proofs.cursor.Reader.return_statement.Goals as goal
+
+pub returns-in_err-rest-clause-err : goal.returns-in_err-rest-clause-err
+returns-in_err-rest-clause-err c =
+    err_same _ c.from_residual.result c.in_err-rest.field-0.0 c.from_residual.ensures.1
+    (λ inner k. c.in_err-rest.ensures.err (State.plain c.args.depth inner k) _ (plain_goes c.args.depth inner k c.args.tokens.now (start.Flat flat.Return) _ c.requires (λ token. refl)))
+
+pub returns-in_err-value-clause-err : goal.returns-in_err-value-clause-err
+returns-in_err-value-clause-err c =
+    err_same _ c.from_residual-in_err-value.result c.in_err-value.field-0.0 c.from_residual-in_err-value.ensures.1
+    (λ inner k. refused_on _ (c.in_ok-rest.ensures.ok (State.plain c.args.depth inner k) _ (plain_goes c.args.depth inner k c.args.tokens.now (start.Flat flat.Return) _ c.requires (λ token. refl))) (c.in_err-value.ensures.err (λ given. with_semicolon k (statement.Return (next_offset c.args.tokens.now) given))))
+
+pub returns-in_err-rest-2-clause-err : goal.returns-in_err-rest-2-clause-err
+returns-in_err-rest-2-clause-err c =
+    err_same _ c.from_residual-in_err-rest-2.result c.in_err-rest-2.field-0.0 c.from_residual-in_err-rest-2.ensures.1
+    (λ inner k. refused_on _ (c.in_ok-rest.ensures.ok (State.plain c.args.depth inner k) _ (plain_goes c.args.depth inner k c.args.tokens.now (start.Flat flat.Return) _ c.requires (λ token. refl)) ∙ c.in_ok-value.ensures.ok (λ given. with_semicolon k (statement.Return (next_offset c.args.tokens.now) given))) (c.in_err-rest-2.ensures.err (k (statement.Return (next_offset c.args.tokens.now) c.in_ok-value.value))))
+
+pub returns-clause-ok : goal.returns-clause-ok
+returns-clause-ok c =
+    λ inner k. c.in_ok-rest.ensures.ok (State.plain c.args.depth inner k) _ (plain_goes c.args.depth inner k c.args.tokens.now (start.Flat flat.Return) _ c.requires (λ token. refl)) ∙ (c.in_ok-value.ensures.ok (λ given. with_semicolon k (statement.Return (next_offset c.args.tokens.now) given)) ∙ (c.in_ok-rest-2.ensures.ok (k (statement.Return (next_offset c.args.tokens.now) c.in_ok-value.value)) ∙ ap (λ at. answer c.args.self.length (k (statement.Return at c.in_ok-value.value)) c.in_ok-rest-2.rest.now) (sym c.next_offset-at.ensures)))

@@ -1,0 +1,34 @@
+use Rattle.std.proofs.Common.{sym, ap, refl, ◌∙◌, ◌++◌, ◌∷◌, [], true, false, arith, pos, Option, None, Some}
+use Rattle.cm_syntax.specs.declared.stmt.Stmt.TheVariants as statement
+use Rattle.cm_syntax.specs.declared.stmt.Target.TheVariants as target
+use Rattle.cm_syntax.specs.declared.stmt.Slot.TheVariants as slot
+use Rattle.cm_syntax.specs.declared.token.Sign.TheVariants as sign
+use Rattle.cm_syntax.specs.declared.token.Keyword.TheVariants as keyword
+use Rattle.cm_syntax.specs.Yield.{Quantity}
+use Rattle.cm_syntax.specs.Machine.{State, item, count_on, with_semicolon, function_of}
+use Rattle.cm_reader.specs.Read.{answer}
+use Rattle.cm_reader.proofs.StepLaws.{err_same, refused_on, ok_map, err_map}
+use Rattle.cm_reader.proofs.FunctionLaws.{parameter_comma_goes, parameters_end}
+use Rattle.cm_reader.proofs.cursor.Reader.some_parameters.Goals as goal
+
+pub returns-in_err-behind-clause-err : goal.returns-in_err-behind-clause-err
+returns-in_err-behind-clause-err c =
+    err_same _ c.from_residual-in_err-behind.result c.in_err-behind.field-0.0 c.from_residual-in_err-behind.ensures.1
+    (λ k. refused_on _ (c.loop-rest.invariant.reads k) (c.in_err-behind.ensures.err (State.more_parameters c.loop-rest.parameters k) _ (parameter_comma_goes c.loop-rest.parameters k c.loop-rest.rest.now (sym c.is_next.ensures ∙ c.loop-rest-test.true))))
+
+pub returns-in_err-more-clause-err : goal.returns-in_err-more-clause-err
+returns-in_err-more-clause-err c =
+    err_same _ c.from_residual-in_err-more.result c.in_err-more.field-0.0 c.from_residual-in_err-more.ensures.1
+    (λ k. refused_on _ (c.loop-rest.invariant.reads k ∙ c.in_ok-behind.ensures.ok (State.more_parameters c.loop-rest.parameters k) _ (parameter_comma_goes c.loop-rest.parameters k c.loop-rest.rest.now (sym c.is_next.ensures ∙ c.loop-rest-test.true))) (c.in_err-more.ensures.err (λ one. State.more_parameters (c.loop-rest.parameters ++ one ∷ []) k)))
+
+pub loop-rest-preserved : goal.loop-rest-preserved
+loop-rest-preserved c =
+    record {
+      reads = λ k. c.loop-rest.invariant.reads k ∙ (c.in_ok-behind.ensures.ok (State.more_parameters c.loop-rest.parameters k) _ (parameter_comma_goes c.loop-rest.parameters k c.loop-rest.rest.now (sym c.is_next.ensures ∙ c.loop-rest-test.true)) ∙ (c.in_ok-more.ensures.ok (λ one. State.more_parameters (c.loop-rest.parameters ++ one ∷ []) k) ∙ ap (λ xs. answer c.args.self.length (State.more_parameters xs k) c.in_ok-more.end.now) (sym c.in_ok-push-2.ensures.ok)));
+      shorter = omega (arith, c.in_ok-more.ensures.shorter, c.in_ok-behind.ensures.shorter, c.loop-rest.invariant.shorter);
+    }
+
+pub returns-in_err-rest-2-clause-err : goal.returns-in_err-rest-2-clause-err
+returns-in_err-rest-2-clause-err c =
+    err_same _ c.from_residual-in_err-rest-2.result c.in_err-rest-2.field-0.0 c.from_residual-in_err-rest-2.ensures.1
+    (λ k. refused_on _ (c.loop-rest.invariant.reads k ∙ parameters_end c.args.self.length c.loop-rest.parameters k c.loop-rest.rest.now (sym c.is_next.ensures ∙ c.loop-rest-test.false)) (c.in_err-rest-2.ensures.err (k c.loop-rest.parameters)))
