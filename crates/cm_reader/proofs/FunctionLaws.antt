@@ -1,5 +1,6 @@
 -- What the machine does at the first tokens of parts of functions.
 use Rattle.std.proofs.Common.{◌≡◌, ℕ, Bool, true, false, List, [], ◌∷◌, ◌++◌, refl, sym, ap, ◌∙◌}
+use Rattle.std.specs.Prelude.{◌==◌, nat_lt, length as token_count, Option, None, Some}
 use Rattle.std.proofs.lemmas.Bool.{true≢false, false≢true}
 use Rattle.cm_syntax.specs.declared.name.Name.{Name}
 use Rattle.cm_syntax.specs.declared.stmt.Item.{Item}
@@ -10,15 +11,11 @@ use Rattle.cm_syntax.specs.declared.token.Sign.TheVariants as sign
 use Rattle.cm_syntax.specs.Token.{Token}
 use Rattle.cm_syntax.specs.ParseTree.{Mark, Offset}
 use Rattle.cm_syntax.specs.Yield.{Quantity}
-use Rattle.cm_syntax.specs.Machine.{State, Next, goes, stops, on, step, is_sign, is_word, item, function_of, type_step, parameter_step}
+use Rattle.cm_syntax.specs.Machine.{State, Next, goes, stops, on, step, is_sign, is_word, item, function_of, type_step, parameter_step, end_answer, some_functions, accepted}
 use Rattle.cm_reader.specs.declared.token.LocatedToken.{LocatedToken}
 use Rattle.cm_reader.specs.Next.{token_of, is_next, is_next_word}
 use Rattle.cm_reader.specs.Read.{answer, Goes, TakesName, TakesNameToken, parameter_next, some_parameters}
 use Rattle.cm_reader.proofs.StepLaws.{step_same}
-
-pub functions_same : (length : ℕ) (before : List (Function Name)) (t : LocatedToken) (tokens : List LocatedToken) →
-    answer length (State.functions_next before) (t ∷ tokens) ≡ answer length (State.function_next (λ f. State.functions_next (before ++ f ∷ []))) (t ∷ tokens)
-functions_same length before t tokens = refl
 
 -- ---- the mark and the type
 
@@ -121,3 +118,33 @@ pub parameter_scalar_same : (length : ℕ) (x : Mark) (k : Item Name → State) 
     answer length (State.parameter_name x k) tokens ≡ answer length (k (item x slot.Scalar)) tokens
 parameter_scalar_same length x k [] absent = refl
 parameter_scalar_same length x k (t ∷ tokens) absent = rw absent refl
+
+-- ---- programs
+
+-- where there is a token more, a function is wanted
+pub functions_go_on : (length : ℕ) (before : List (Function Name)) (tokens : List LocatedToken) → (token_count tokens == 0) ≡ false →
+    answer length (State.functions_next before) tokens ≡ answer length (State.function_next (λ f. State.functions_next (before ++ f ∷ []))) tokens
+functions_go_on length before [] some = absurd (true≢false some)
+functions_go_on length before (t ∷ tokens) some = refl
+
+-- where the tokens end
+pub functions_finish : (length : ℕ) (before : List (Function Name)) (tokens : List LocatedToken) → (token_count tokens == 0) ≡ true →
+    answer length (State.functions_next before) tokens ≡ end_answer length (some_functions before)
+functions_finish length before [] none = refl
+functions_finish length before (t ∷ tokens) none = absurd (false≢true none)
+
+-- a text that is too long is refused, whatever was read
+pub end_too_long : (length : ℕ) (functions : List (Function Name)) → nat_lt 65536 length ≡ true →
+    end_answer length (some_functions functions) ≡ end_answer length None
+end_too_long length [] long = refl
+end_too_long length (f ∷ functions) long = rw long refl
+
+-- a text without functions is refused
+pub end_without : (length : ℕ) (functions : List (Function Name)) → functions ≡ [] →
+    end_answer length (some_functions functions) ≡ end_answer length None
+end_without length functions none = rw none refl
+
+pub end_accepted : (length : ℕ) (functions : List (Function Name)) → nat_lt 65536 length ≡ false → (functions ≡ [] → ⊥) →
+    end_answer length (some_functions functions) ≡ accepted functions
+end_accepted length [] short some = absurd (some refl)
+end_accepted length (f ∷ functions) short some = rw short refl

@@ -5,11 +5,11 @@ use Rattle.cm_syntax.specs.Machine.{State, declarator}
 use Rattle.cm_reader.specs.Read.{answer}
 use Rattle.cm_reader.proofs.cursor.Reader.declaration.Given as goal
 
-abbrev pub invariant-loop-rest : goal.invariant-loop-rest
-invariant-loop-rest l = record {
+abbrev pub invariant-loop-self : goal.invariant-loop-self
+invariant-loop-self l = record {
   reads : (k : List (Item Name) → State) → answer l.self.length (declarator [] k) l.tokens ≡ answer l.self.length (State.more_items l.items k) l.rest;
   shorter : length l.rest < length l.tokens;
 }
 
-abbrev pub decreases-loop-rest : goal.decreases-loop-rest
-decreases-loop-rest l = length l.rest
+abbrev pub decreases-loop-self : goal.decreases-loop-self
+decreases-loop-self l = length l.rest

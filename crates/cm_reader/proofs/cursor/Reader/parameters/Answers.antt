@@ -32,7 +32,7 @@ returns-in_err-rest-3-clause-err c =
 
 pub returns-in_ok-rest-3-clause-ok : goal.returns-in_ok-rest-3-clause-ok
 returns-in_ok-rest-3-clause-ok c =
-    λ k. c.in_ok-rest-2.ensures.ok (State.first_parameter k) _ (void_goes k c.args.tokens.now (sym c.is_next.ensures ∙ c.if-is_next.false) (sym c.is_next_word.ensures ∙ c.if-is_next_word.true)) ∙ (c.in_ok-rest-3.ensures.ok (k []) ∙ ap (λ xs. answer c.args.self.length (k xs) c.in_ok-rest-3.rest.now) (sym c.new.ensures))
+    λ k. c.in_ok-rest-2.ensures.ok (State.first_parameter k) _ (void_goes k c.args.tokens.now (sym c.is_next.ensures ∙ c.if-is_next.false) (sym c.is_next_word.ensures ∙ c.if-is_next_word.true)) ∙ (c.in_ok-rest-3.ensures.ok (k []) ∙ ap (λ xs. answer c.args.self.length (k xs) c.in_ok-rest-3.rest.now) (sym c.new-then-is_next_word.ensures))
 
 pub returns-in_err-parameters-clause-err : goal.returns-in_err-parameters-clause-err
 returns-in_err-parameters-clause-err c =

@@ -28,7 +28,7 @@ loop-rest-preserved c =
       shorter = omega (arith, c.in_ok-more.ensures.shorter, c.in_ok-behind.ensures.shorter, c.loop-rest.invariant.shorter);
     }
 
-pub returns-in_err-rest-2-clause-err : goal.returns-in_err-rest-2-clause-err
-returns-in_err-rest-2-clause-err c =
-    err_same _ c.from_residual-in_err-rest-2.result c.in_err-rest-2.field-0.0 c.from_residual-in_err-rest-2.ensures.1
-    (λ k. refused_on _ (c.loop-rest.invariant.reads k ∙ parameters_end c.args.self.length c.loop-rest.parameters k c.loop-rest.rest.now (sym c.is_next.ensures ∙ c.loop-rest-test.false)) (c.in_err-rest-2.ensures.err (k c.loop-rest.parameters)))
+pub returns-in_err-rest-clause-err : goal.returns-in_err-rest-clause-err
+returns-in_err-rest-clause-err c =
+    err_same _ c.from_residual-in_err-rest.result c.in_err-rest.field-0.0 c.from_residual-in_err-rest.ensures.1
+    (λ k. refused_on _ (c.loop-rest.invariant.reads k ∙ parameters_end c.args.self.length c.loop-rest.parameters k c.loop-rest.rest.now (sym c.is_next.ensures ∙ c.loop-rest-test.false)) (c.in_err-rest.ensures.err (k c.loop-rest.parameters)))
