@@ -26,7 +26,7 @@ use Rattle.cm_syntax.specs.Shape.{Element, Index-Element}
 use Rattle.cm_syntax.specs.Canonical.{token_text, word_token, sign_token, name_token, own_level, parenthesize, expression_text, argument_text, optional_text, item_text, items_text, parameters_text, simple_text, statement_text, body_text, target_text, function_text, functions_text}
 use Rattle.cm_syntax.proofs.StatementLaw.{For-Loop}
 use Rattle.cm_syntax.proofs.printing.TextLaw.{text-Binary, level-Binary, text-Unary, level-Unary, text-Input, index_text, IndexText, listed, text-If, text-Else, text-While, text-For, text-Block, text-Split}
-use Rattle.cm_reader.specs.Spaced.{spaced, block, head, turns}
+use Rattle.cm_reader.specs.Spaced.{spaced, block, head, for_head}
 use Rattle.cm_reader.proofs.SpacedLaws.{put_both, Lists, separated, Separates, separated-listed}
 
 -- ---- expressions
@@ -121,7 +121,7 @@ text_of_While s test body got is same =
     ap statement_text shape ∙ (text-While test got ∙ ap (λ ts. ts ++ statement_text got) (sym (ap head shape)))
 
 pub head_of_For : (s first : Stmt Name) (test : Option (Expr Name)) (step body got_first got_step : Stmt Name) → s ≡ statement.For first test step body →
-    got_first ≡ first → got_step ≡ step → head s ≡ turns got_first test got_step
+    got_first ≡ first → got_step ≡ step → head s ≡ for_head got_first test got_step
 head_of_For s first test step body got_first got_step is same_first same_step =
     ap head (is ∙ For-Loop first test step body) ∙ rw (same_first, same_step) refl
 
@@ -132,7 +132,7 @@ pub text_of_For : (s first : Stmt Name) (test : Option (Expr Name)) (step body g
     statement_text s ≡ head s ++ statement_text got
 text_of_For s first test step body got is same =
     let shape : s ≡ statement.For first test step got = is ∙ ap (statement.For first test step) (sym same) in
-    let heads : head s ≡ turns first test step = head_of_For s first test step got first step shape refl refl in
+    let heads : head s ≡ for_head first test step = head_of_For s first test step got first step shape refl refl in
     let parted = turned (simple_text first) (optional_text test) (simple_text step) (statement_text got) (sign_token sign.Semicolon) in
     ap statement_text shape ∙ (text-For first test step got ∙
     (ap (λ ts. word_token keyword.For ∷ sign_token sign.ParenOpen ∷ ts) parted ∙ ap (λ ts. ts ++ statement_text got) (sym heads)))

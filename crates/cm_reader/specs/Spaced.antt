@@ -27,14 +27,14 @@ abbrev pub block : List (Stmt Name) → List Token
 block body = sign_token sign.BraceOpen ∷ (body_text body ++ sign_token sign.BraceClose ∷ [])
 
 -- what stands in front of the body of a `for`
-abbrev pub turns : Stmt Name → Option (Expr Name) → Stmt Name → List Token
-turns first test step =
+abbrev pub for_head : Stmt Name → Option (Expr Name) → Stmt Name → List Token
+for_head first test step =
     word_token keyword.For ∷ sign_token sign.ParenOpen ∷ (simple_text first ++ (sign_token sign.Semicolon ∷
     (optional_text test ++ (sign_token sign.Semicolon ∷ (simple_text step ++ sign_token sign.ParenClose ∷ [])))))
 
 -- what stands in front of the block of a `split`
-abbrev pub parts : (whole : Mark Name) → Expr Name → (left right : Mark Name) → List Token
-parts whole place left right =
+abbrev pub split_head : (whole : Mark Name) → Expr Name → (left right : Mark Name) → List Token
+split_head whole place left right =
     word_token keyword.Split ∷ name_token whole ∷ word_token keyword.At ∷
     (expression_text place ++ (word_token keyword.As ∷ name_token left ∷ sign_token sign.Comma ∷ name_token right ∷ []))
 
@@ -42,6 +42,6 @@ parts whole place left right =
 abbrev pub head : Stmt Name → List Token
 head (statement.If' test _ _ _) = condition_text keyword.If test
 head (statement.While' test _ _) = condition_text keyword.While test
-head (ForLoop first test step body) = turns first test step
-head (statement.Split' whole place left right _ _ _) = parts whole place left right
+head (ForLoop first test step body) = for_head first test step
+head (statement.Split' whole place left right _ _ _) = split_head whole place left right
 head _ = []

@@ -14,7 +14,7 @@ ghost use Rattle.cm_syntax.specs.declared.stmt.Stmt.TheVariants as statements;
 ghost use Rattle.cm_syntax.specs.declared.token.Keyword.TheVariants as keywords;
 ghost use Rattle.cm_syntax.specs.declared.token.Sign.TheVariants as signs;
 ghost use Rattle.cm_reader.specs.ReadBack.{ReadsBack};
-ghost use Rattle.cm_reader.specs.Spaced.{spaced, comma, block, head, turns, parts};
+ghost use Rattle.cm_reader.specs.Spaced.{spaced, comma, block, head, for_head, split_head};
 
 use crate::spelling::{assign_sign, keyword_text, level_of, sign_of, sign_text};
 use cm_syntax::{
@@ -153,14 +153,14 @@ fn put_head(text: &mut Bytes, statement: &Stmt<Name>) -> Result<(), Memory>
             test,
             step,
             ..
-        } => put_turns(text, first.get(), test, step.get()),
+        } => put_for_head(text, first.get(), test, step.get()),
         Stmt::Split {
             whole,
             place,
             left,
             right,
             ..
-        } => put_parts(text, whole, place, left, right),
+        } => put_split_head(text, whole, place, left, right),
         _ => Ok(()),
     }
 }
@@ -175,13 +175,13 @@ fn put_condition(text: &mut Bytes, keyword: Keyword, test: &Expr<Name>) -> Resul
 }
 
 /// Puts what stands in front of the body of a `for` last.
-fn put_turns(
+fn put_for_head(
     text: &mut Bytes,
     first: &Stmt<Name>,
     test: &Option<Expr<Name>>,
     step: &Stmt<Name>,
 ) -> Result<(), Memory>
-    ensures { OnOk result (text.new ≡ text.old ++ spaced (turns first.now test.now step.now)) }
+    ensures { OnOk result (text.new ≡ text.old ++ spaced (for_head first.now test.now step.now)) }
 {
     put_word(text, Keyword::For)?;
     put_sign(text, Sign::ParenOpen)?;
@@ -195,14 +195,14 @@ fn put_turns(
 }
 
 /// Puts what stands in front of the block of a `split` last.
-fn put_parts(
+fn put_split_head(
     text: &mut Bytes,
     whole: &Mark<Name>,
     place: &Expr<Name>,
     left: &Mark<Name>,
     right: &Mark<Name>,
 ) -> Result<(), Memory>
-    ensures { OnOk result (text.new ≡ text.old ++ spaced (parts whole.now place.now left.now right.now)) }
+    ensures { OnOk result (text.new ≡ text.old ++ spaced (split_head whole.now place.now left.now right.now)) }
 {
     put_word(text, Keyword::Split)?;
     put_name(text, whole)?;
