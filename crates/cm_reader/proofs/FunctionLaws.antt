@@ -1,7 +1,7 @@
 -- What the machine does at the first tokens of parts of functions.
-use Rattle.std.proofs.Common.{◌≡◌, ℕ, Bool, true, false, List, [], ◌∷◌, ◌++◌, refl, sym, ap, ◌∙◌}
+use Rattle.std.proofs.Common.{◌≡◌, ℕ, Bool, true, false, List, [], ◌∷◌, ◌++◌, refl, sym, ap, ◌∙◌, arith}
 use Rattle.std.specs.Prelude.{◌==◌, nat_lt, length as token_count, Option, None, Some}
-use Rattle.std.proofs.lemmas.Bool.{true≢false, false≢true}
+use Rattle.std.proofs.lemmas.Bool.{true≢false, false≢true, eqb-true}
 use Rattle.cm_syntax.specs.declared.name.Name.{Name}
 use Rattle.cm_syntax.specs.declared.stmt.Item.{Item}
 use Rattle.cm_syntax.specs.declared.stmt.Slot.TheVariants as slot
@@ -131,7 +131,8 @@ functions_go_on length before (t ∷ tokens) some = refl
 pub functions_finish : (length : ℕ) (before : List (Function Name)) (tokens : List LocatedToken) → (token_count tokens == 0) ≡ true →
     answer length (State.functions_next before) tokens ≡ end_answer length (some_functions before)
 functions_finish length before [] none = refl
-functions_finish length before (t ∷ tokens) none = absurd (false≢true none)
+functions_finish length before (t ∷ tokens) none =
+    let zero : token_count (t ∷ tokens) ≡ 0 = eqb-true (token_count (t ∷ tokens)) 0 none in absurd (omega (arith, zero))
 
 -- a text that is too long is refused, whatever was read
 pub end_too_long : (length : ℕ) (functions : List (Function Name)) → nat_lt 65536 length ≡ true →

@@ -47,7 +47,11 @@ impl Reader {
     }
 
     /// Takes the next token, which the grammar allows here; what is counted at it is within its limit or not.
-    pub(crate) fn accept<'a>(self, tokens: &'a [LocatedToken], fits: bool) -> Result<&'a [LocatedToken], ReadRefusal>
+    pub(crate) fn accept<'a>(
+        self,
+        tokens: &'a [LocatedToken],
+        fits: bool,
+    ) -> Result<&'a [LocatedToken], ReadRefusal>
         ensures within { IfOk result (λ rest. fits ≡ true) }
         ensures shorter { IfOk result (λ rest. length rest.now < length tokens.now) }
         ensures ok { IfOk result (λ rest. (s : State) (next : State) → Goes s tokens.now fits next → answer self.length s tokens.now ≡ answer self.length next rest.now) }
@@ -63,7 +67,11 @@ impl Reader {
     }
 
     /// Takes this sign.
-    pub(crate) fn sign<'a>(self, tokens: &'a [LocatedToken], sign: Sign) -> Result<&'a [LocatedToken], ReadRefusal>
+    pub(crate) fn sign<'a>(
+        self,
+        tokens: &'a [LocatedToken],
+        sign: Sign,
+    ) -> Result<&'a [LocatedToken], ReadRefusal>
         ensures shorter { IfOk result (λ rest. length rest.now < length tokens.now) }
         ensures ok { IfOk result (λ rest. (next : State) → answer self.length (State.sign_next sign next) tokens.now ≡ answer self.length next rest.now) }
         ensures err { IfErr result (λ refusal. (next : State) → IsRefusal refusal (answer self.length (State.sign_next sign next) tokens.now)) }
@@ -76,7 +84,11 @@ impl Reader {
     }
 
     /// Takes this word.
-    pub(crate) fn word<'a>(self, tokens: &'a [LocatedToken], word: Keyword) -> Result<&'a [LocatedToken], ReadRefusal>
+    pub(crate) fn word<'a>(
+        self,
+        tokens: &'a [LocatedToken],
+        word: Keyword,
+    ) -> Result<&'a [LocatedToken], ReadRefusal>
         ensures shorter { IfOk result (λ rest. length rest.now < length tokens.now) }
         ensures ok { IfOk result (λ rest. (next : State) → answer self.length (State.word_next word next) tokens.now ≡ answer self.length next rest.now) }
         ensures err { IfErr result (λ refusal. (next : State) → IsRefusal refusal (answer self.length (State.word_next word next) tokens.now)) }
@@ -89,7 +101,11 @@ impl Reader {
     }
 
     /// Takes a name; what is counted at it is within its limit or not.
-    pub(crate) fn counted_name<'a>(self, tokens: &'a [LocatedToken], fits: bool) -> Result<(Mark<Name>, &'a [LocatedToken]), ReadRefusal>
+    pub(crate) fn counted_name<'a>(
+        self,
+        tokens: &'a [LocatedToken],
+        fits: bool,
+    ) -> Result<(Mark<Name>, &'a [LocatedToken]), ReadRefusal>
         ensures shorter { IfOk result (λ read. length read.1.now < length tokens.now) }
         ensures ok { IfOk result (λ read. ReadsName self.length tokens.now fits read.0 read.1.now) }
         ensures err { IfErr result (RefusesName self.length tokens.now fits) }
@@ -106,7 +122,10 @@ impl Reader {
     }
 
     /// Takes a name.
-    pub(crate) fn name<'a>(self, tokens: &'a [LocatedToken]) -> Result<(Mark<Name>, &'a [LocatedToken]), ReadRefusal>
+    pub(crate) fn name<'a>(
+        self,
+        tokens: &'a [LocatedToken],
+    ) -> Result<(Mark<Name>, &'a [LocatedToken]), ReadRefusal>
         ensures shorter { IfOk result (λ read. length read.1.now < length tokens.now) }
         ensures ok { IfOk result (λ read. Reads self.length State.name_next tokens.now read.0 read.1.now) }
         ensures err { IfErr result (Refuses self.length State.name_next tokens.now) }

@@ -8,7 +8,8 @@ ghost use Rattle.cm_reader.specs.Next as next;
 
 use crate::cursor::Reader;
 use crate::refusal::ReadRefusal;
-use crate::start::{PrimaryStart, binary_operator, is_next, level_of, primary_start, unary_operator};
+use crate::spelling::level_of;
+use crate::start::{PrimaryStart, binary_operator, is_next, primary_start, unary_operator};
 use crate::token::LocatedToken;
 use cm_syntax::{Arg, Call, Expr, Mark, Name, Op, Sign};
 use cm_text::List;
@@ -25,7 +26,12 @@ impl Reader {
     /// An expression of this level or a higher one, behind so many operators; then how many stand before
     /// what follows it.
     #[cycle(expression)]
-    fn expression<'a>(self, tokens: &'a [LocatedToken], level: u32, operators: u32) -> Result<(Expr<Name>, u32, &'a [LocatedToken]), ReadRefusal>
+    fn expression<'a>(
+        self,
+        tokens: &'a [LocatedToken],
+        level: u32,
+        operators: u32,
+    ) -> Result<(Expr<Name>, u32, &'a [LocatedToken]), ReadRefusal>
         requires { operators ≤ 64 }
         ensures shorter { IfOk result (λ read. length read.2.now < length tokens.now) }
         ensures few { IfOk result (λ read. read.1 ≤ 64) }
@@ -45,7 +51,11 @@ impl Reader {
 
     /// An operand with its unary operators, behind so many operators.
     #[cycle(expression)]
-    fn operand<'a>(self, tokens: &'a [LocatedToken], operators: u32) -> Result<(Expr<Name>, u32, &'a [LocatedToken]), ReadRefusal>
+    fn operand<'a>(
+        self,
+        tokens: &'a [LocatedToken],
+        operators: u32,
+    ) -> Result<(Expr<Name>, u32, &'a [LocatedToken]), ReadRefusal>
         requires { operators ≤ 64 }
         ensures shorter { IfOk result (λ read. length read.2.now < length tokens.now) }
         ensures few { IfOk result (λ read. read.1 ≤ 64) }
@@ -58,12 +68,19 @@ impl Reader {
         };
         let rest = self.accept(tokens, operators < MAX_OPERATORS)?;
         let (operand, count, rest) = self.operand(rest, operators + 1)?;
-        Ok((Expr::Unary(op, Boxed::new(self.alloc, operand)?), count, rest))
+        Ok((
+            Expr::Unary(op, Boxed::new(self.alloc, operand)?),
+            count,
+            rest,
+        ))
     }
 
     /// An operand without unary operators.
     #[cycle(expression)]
-    fn primary<'a>(self, tokens: &'a [LocatedToken]) -> Result<(Expr<Name>, &'a [LocatedToken]), ReadRefusal>
+    fn primary<'a>(
+        self,
+        tokens: &'a [LocatedToken],
+    ) -> Result<(Expr<Name>, &'a [LocatedToken]), ReadRefusal>
         requires { next.unary_operator tokens.now ≡ None }
         ensures shorter { IfOk result (λ read. length read.1.now < length tokens.now) }
         ensures ok { IfOk result (λ read. ReadsPrimary self.length tokens.now read.0 read.1.now) }
@@ -107,7 +124,11 @@ impl Reader {
 
     /// What follows a name in an expression: an index, arguments, or nothing.
     #[cycle(expression)]
-    fn named_operand<'a>(self, name: Mark<Name>, tokens: &'a [LocatedToken]) -> Result<(Expr<Name>, &'a [LocatedToken]), ReadRefusal>
+    fn named_operand<'a>(
+        self,
+        name: Mark<Name>,
+        tokens: &'a [LocatedToken],
+    ) -> Result<(Expr<Name>, &'a [LocatedToken]), ReadRefusal>
         ensures shorter { IfOk result (λ read. length read.1.now ≤ length tokens.now) }
         ensures ok { IfOk result (λ read. ReadsNamed self.length name tokens.now read.0 read.1.now) }
         ensures err { IfErr result (RefusesNamed self.length name tokens.now) }
@@ -120,7 +141,13 @@ impl Reader {
             let rest = self.accept(tokens, true)?;
             let (arguments, rest) = self.arguments(rest)?;
             let function = name;
-            Ok((Expr::Call(Call { function, arguments }), rest))
+            Ok((
+                Expr::Call(Call {
+                    function,
+                    arguments,
+                }),
+                rest,
+            ))
         } else {
             Ok((Expr::Scalar(name), tokens))
         }
@@ -128,7 +155,10 @@ impl Reader {
 
     /// The arguments of a call behind `(`, and `)`.
     #[cycle(expression)]
-    fn arguments<'a>(self, tokens: &'a [LocatedToken]) -> Result<(List<Arg<Name>>, &'a [LocatedToken]), ReadRefusal>
+    fn arguments<'a>(
+        self,
+        tokens: &'a [LocatedToken],
+    ) -> Result<(List<Arg<Name>>, &'a [LocatedToken]), ReadRefusal>
         ensures shorter { IfOk result (λ read. length read.1.now < length tokens.now) }
         ensures ok { IfOk result (λ read. Reads self.length State.first_argument tokens.now read.0 read.1.now) }
         ensures err { IfErr result (Refuses self.length State.first_argument tokens.now) }
@@ -152,7 +182,10 @@ impl Reader {
 
     /// An argument.
     #[cycle(expression)]
-    fn argument<'a>(self, tokens: &'a [LocatedToken]) -> Result<(Arg<Name>, &'a [LocatedToken]), ReadRefusal>
+    fn argument<'a>(
+        self,
+        tokens: &'a [LocatedToken],
+    ) -> Result<(Arg<Name>, &'a [LocatedToken]), ReadRefusal>
         ensures shorter { IfOk result (λ read. length read.1.now < length tokens.now) }
         ensures ok { IfOk result (λ read. ReadsArgument self.length tokens.now read.0 read.1.now) }
         ensures err { IfErr result (RefusesArgument self.length tokens.now) }
@@ -169,7 +202,10 @@ impl Reader {
 
     /// An expression of any level.
     #[cycle(expression)]
-    pub(crate) fn value<'a>(self, tokens: &'a [LocatedToken]) -> Result<(Expr<Name>, &'a [LocatedToken]), ReadRefusal>
+    pub(crate) fn value<'a>(
+        self,
+        tokens: &'a [LocatedToken],
+    ) -> Result<(Expr<Name>, &'a [LocatedToken]), ReadRefusal>
         ensures shorter { IfOk result (λ read. length read.1.now < length tokens.now) }
         ensures ok { IfOk result (λ read. Reads self.length value tokens.now read.0 read.1.now) }
         ensures err { IfErr result (Refuses self.length value tokens.now) }
@@ -180,7 +216,10 @@ impl Reader {
 
     /// An index behind `[`, and `]`.
     #[cycle(expression)]
-    pub(crate) fn index<'a>(self, tokens: &'a [LocatedToken]) -> Result<(Expr<Name>, &'a [LocatedToken]), ReadRefusal>
+    pub(crate) fn index<'a>(
+        self,
+        tokens: &'a [LocatedToken],
+    ) -> Result<(Expr<Name>, &'a [LocatedToken]), ReadRefusal>
         ensures shorter { IfOk result (λ read. length read.1.now < length tokens.now) }
         ensures ok { IfOk result (λ read. Reads self.length index tokens.now read.0 read.1.now) }
         ensures err { IfErr result (Refuses self.length index tokens.now) }
@@ -192,7 +231,10 @@ impl Reader {
 
     /// An expression between parentheses.
     #[cycle(expression)]
-    pub(crate) fn parenthesized<'a>(self, tokens: &'a [LocatedToken]) -> Result<(Expr<Name>, &'a [LocatedToken]), ReadRefusal>
+    pub(crate) fn parenthesized<'a>(
+        self,
+        tokens: &'a [LocatedToken],
+    ) -> Result<(Expr<Name>, &'a [LocatedToken]), ReadRefusal>
         ensures shorter { IfOk result (λ read. length read.1.now < length tokens.now) }
         ensures ok { IfOk result (λ read. Reads self.length parenthesized tokens.now read.0 read.1.now) }
         ensures err { IfErr result (Refuses self.length parenthesized tokens.now) }
@@ -204,17 +246,30 @@ impl Reader {
     }
 
     /// The arguments of a call of this function, behind `(`, and `)`.
-    pub(crate) fn call_of<'a>(self, function: Mark<Name>, tokens: &'a [LocatedToken]) -> Result<(Call<Name>, &'a [LocatedToken]), ReadRefusal>
+    pub(crate) fn call_of<'a>(
+        self,
+        function: Mark<Name>,
+        tokens: &'a [LocatedToken],
+    ) -> Result<(Call<Name>, &'a [LocatedToken]), ReadRefusal>
         ensures shorter { IfOk result (λ read. length read.1.now < length tokens.now) }
         ensures ok { IfOk result (λ read. Reads self.length (call_of function) tokens.now read.0 read.1.now) }
         ensures err { IfErr result (Refuses self.length (call_of function) tokens.now) }
     {
         let (arguments, rest) = self.arguments(tokens)?;
-        Ok((Call { function, arguments }, rest))
+        Ok((
+            Call {
+                function,
+                arguments,
+            },
+            rest,
+        ))
     }
 
     /// A name between parentheses.
-    fn parenthesized_name<'a>(self, tokens: &'a [LocatedToken]) -> Result<(Mark<Name>, &'a [LocatedToken]), ReadRefusal>
+    fn parenthesized_name<'a>(
+        self,
+        tokens: &'a [LocatedToken],
+    ) -> Result<(Mark<Name>, &'a [LocatedToken]), ReadRefusal>
         ensures shorter { IfOk result (λ read. length read.1.now < length tokens.now) }
         ensures ok { IfOk result (λ read. Reads self.length parenthesized_name tokens.now read.0 read.1.now) }
         ensures err { IfErr result (Refuses self.length parenthesized_name tokens.now) }
@@ -227,7 +282,12 @@ impl Reader {
 }
 
 /// Two operands and the operator between them.
-fn joined(alloc: Global, op: Op, left: Expr<Name>, right: Expr<Name>) -> Result<Expr<Name>, ReadRefusal>
+fn joined(
+    alloc: Global,
+    op: Op,
+    left: Expr<Name>,
+    right: Expr<Name>,
+) -> Result<Expr<Name>, ReadRefusal>
     ensures ok { IfOk result (λ whole. whole ≡ expressions.Binary op left right) }
     ensures err { IfErr result (λ refusal. refusal ≡ OutOfMemory) }
 {

@@ -12,7 +12,11 @@ use cm_text::List;
 use std::alloc::Global;
 
 /// The functions of a text of this length that has these tokens.
-pub(crate) fn parse(alloc: Global, tokens: &[LocatedToken], length: u32) -> Result<List<Function<Name>>, ReadRefusal>
+pub(crate) fn parse(
+    alloc: Global,
+    tokens: &[LocatedToken],
+    length: u32,
+) -> Result<List<Function<Name>>, ReadRefusal>
     ensures ok { IfOk result (λ functions. answer length start tokens.now ≡ accepted functions) }
     ensures err { IfErr result (λ refusal. IsRefusal refusal (answer length start tokens.now)) }
 {
@@ -43,7 +47,10 @@ impl Reader {
     }
 
     /// A function.
-    fn function<'a>(self, tokens: &'a [LocatedToken]) -> Result<(Function<Name>, &'a [LocatedToken]), ReadRefusal>
+    fn function<'a>(
+        self,
+        tokens: &'a [LocatedToken],
+    ) -> Result<(Function<Name>, &'a [LocatedToken]), ReadRefusal>
         ensures shorter { IfOk result (λ read. length read.1.now < length tokens.now) }
         ensures ok { IfOk result (λ read. Reads self.length State.function_next tokens.now read.0 read.1.now) }
         ensures err { IfErr result (Refuses self.length State.function_next tokens.now) }
@@ -69,7 +76,10 @@ impl Reader {
     }
 
     /// Whether a function returns a value: `int` or `void`.
-    fn return_type<'a>(self, tokens: &'a [LocatedToken]) -> Result<(bool, &'a [LocatedToken]), ReadRefusal>
+    fn return_type<'a>(
+        self,
+        tokens: &'a [LocatedToken],
+    ) -> Result<(bool, &'a [LocatedToken]), ReadRefusal>
         ensures shorter { IfOk result (λ read. length read.1.now < length tokens.now) }
         ensures ok { IfOk result (λ read. Reads self.length State.return_type tokens.now read.0 read.1.now) }
         ensures err { IfErr result (Refuses self.length State.return_type tokens.now) }
@@ -84,7 +94,12 @@ impl Reader {
     }
 
     /// What follows the mark and the type of a function.
-    fn function_of<'a>(self, cilk: bool, gives: bool, tokens: &'a [LocatedToken]) -> Result<(Function<Name>, &'a [LocatedToken]), ReadRefusal>
+    fn function_of<'a>(
+        self,
+        cilk: bool,
+        gives: bool,
+        tokens: &'a [LocatedToken],
+    ) -> Result<(Function<Name>, &'a [LocatedToken]), ReadRefusal>
         ensures shorter { IfOk result (λ read. length read.1.now < length tokens.now) }
         ensures ok { IfOk result (λ read. Reads self.length (function_of cilk gives) tokens.now read.0 read.1.now) }
         ensures err { IfErr result (Refuses self.length (function_of cilk gives) tokens.now) }
@@ -95,11 +110,24 @@ impl Reader {
         let rest = self.sign(rest, Sign::BraceOpen)?;
         let (body, _, rest) = self.statements(rest, 1)?;
         let slots = List::new(self.alloc);
-        Ok((Function { name, cilk, gives, parameters, body, slots }, rest))
+        Ok((
+            Function {
+                name,
+                cilk,
+                gives,
+                parameters,
+                body,
+                slots,
+            },
+            rest,
+        ))
     }
 
     /// The parameters of a function behind `(`, and `)`.
-    fn parameters<'a>(self, tokens: &'a [LocatedToken]) -> Result<(List<Item<Name>>, &'a [LocatedToken]), ReadRefusal>
+    fn parameters<'a>(
+        self,
+        tokens: &'a [LocatedToken],
+    ) -> Result<(List<Item<Name>>, &'a [LocatedToken]), ReadRefusal>
         ensures shorter { IfOk result (λ read. length read.1.now < length tokens.now) }
         ensures ok { IfOk result (λ read. Reads self.length State.first_parameter tokens.now read.0 read.1.now) }
         ensures err { IfErr result (Refuses self.length State.first_parameter tokens.now) }
@@ -118,7 +146,10 @@ impl Reader {
     }
 
     /// One parameter or more, and `)`.
-    fn some_parameters<'a>(self, tokens: &'a [LocatedToken]) -> Result<(List<Item<Name>>, &'a [LocatedToken]), ReadRefusal>
+    fn some_parameters<'a>(
+        self,
+        tokens: &'a [LocatedToken],
+    ) -> Result<(List<Item<Name>>, &'a [LocatedToken]), ReadRefusal>
         ensures shorter { IfOk result (λ read. length read.1.now < length tokens.now) }
         ensures ok { IfOk result (λ read. Reads self.length some_parameters tokens.now read.0 read.1.now) }
         ensures err { IfErr result (Refuses self.length some_parameters tokens.now) }
@@ -137,7 +168,10 @@ impl Reader {
     }
 
     /// A parameter: its `int` and its declarator.
-    fn parameter<'a>(self, tokens: &'a [LocatedToken]) -> Result<(Item<Name>, &'a [LocatedToken]), ReadRefusal>
+    fn parameter<'a>(
+        self,
+        tokens: &'a [LocatedToken],
+    ) -> Result<(Item<Name>, &'a [LocatedToken]), ReadRefusal>
         ensures shorter { IfOk result (λ read. length read.1.now < length tokens.now) }
         ensures ok { IfOk result (λ read. Reads self.length parameter_next tokens.now read.0 read.1.now) }
         ensures err { IfErr result (Refuses self.length parameter_next tokens.now) }
@@ -148,7 +182,10 @@ impl Reader {
     }
 
     /// A parameter behind its `int`.
-    fn parameter_declarator<'a>(self, tokens: &'a [LocatedToken]) -> Result<(Item<Name>, &'a [LocatedToken]), ReadRefusal>
+    fn parameter_declarator<'a>(
+        self,
+        tokens: &'a [LocatedToken],
+    ) -> Result<(Item<Name>, &'a [LocatedToken]), ReadRefusal>
         ensures shorter { IfOk result (λ read. length read.1.now < length tokens.now) }
         ensures ok { IfOk result (λ read. Reads self.length State.parameter_declarator tokens.now read.0 read.1.now) }
         ensures err { IfErr result (Refuses self.length State.parameter_declarator tokens.now) }
@@ -156,7 +193,14 @@ impl Reader {
         if is_next(tokens, Sign::Star) {
             let rest = self.accept(tokens, true)?;
             let (name, rest) = self.name(rest)?;
-            Ok((Item { name, slot: Slot::Slice, first: None }, rest))
+            Ok((
+                Item {
+                    name,
+                    slot: Slot::Slice,
+                    first: None,
+                },
+                rest,
+            ))
         } else {
             let (name, rest) = self.counted_name(tokens, true)?;
             let (parameter, rest) = self.parameter_of(name, rest)?;
@@ -165,7 +209,11 @@ impl Reader {
     }
 
     /// What follows the name of a parameter: brackets, or nothing.
-    fn parameter_of<'a>(self, name: Mark<Name>, tokens: &'a [LocatedToken]) -> Result<(Item<Name>, &'a [LocatedToken]), ReadRefusal>
+    fn parameter_of<'a>(
+        self,
+        name: Mark<Name>,
+        tokens: &'a [LocatedToken],
+    ) -> Result<(Item<Name>, &'a [LocatedToken]), ReadRefusal>
         ensures shorter { IfOk result (λ read. length read.1.now ≤ length tokens.now) }
         ensures ok { IfOk result (λ read. Reads self.length (State.parameter_name name) tokens.now read.0 read.1.now) }
         ensures err { IfErr result (Refuses self.length (State.parameter_name name) tokens.now) }
@@ -173,9 +221,23 @@ impl Reader {
         if is_next(tokens, Sign::BracketOpen) {
             let rest = self.accept(tokens, true)?;
             let rest = self.sign(rest, Sign::BracketClose)?;
-            Ok((Item { name, slot: Slot::Slice, first: None }, rest))
+            Ok((
+                Item {
+                    name,
+                    slot: Slot::Slice,
+                    first: None,
+                },
+                rest,
+            ))
         } else {
-            Ok((Item { name, slot: Slot::Scalar, first: None }, tokens))
+            Ok((
+                Item {
+                    name,
+                    slot: Slot::Scalar,
+                    first: None,
+                },
+                tokens,
+            ))
         }
     }
 }

@@ -20,7 +20,10 @@ const MAX_ARRAY_WORDS: u32 = 16384;
 
 impl Reader {
     /// The declarators of a declaration, behind `int`.
-    pub(crate) fn declaration<'a>(self, tokens: &'a [LocatedToken]) -> Result<(List<Item<Name>>, &'a [LocatedToken]), ReadRefusal>
+    pub(crate) fn declaration<'a>(
+        self,
+        tokens: &'a [LocatedToken],
+    ) -> Result<(List<Item<Name>>, &'a [LocatedToken]), ReadRefusal>
         ensures shorter { IfOk result (λ read. length read.1.now < length tokens.now) }
         ensures ok { IfOk result (λ read. Reads self.length (declarator []) tokens.now read.0 read.1.now) }
         ensures err { IfErr result (Refuses self.length (declarator []) tokens.now) }
@@ -38,7 +41,10 @@ impl Reader {
     }
 
     /// A declarator.
-    fn item<'a>(self, tokens: &'a [LocatedToken]) -> Result<(Item<Name>, &'a [LocatedToken]), ReadRefusal>
+    fn item<'a>(
+        self,
+        tokens: &'a [LocatedToken],
+    ) -> Result<(Item<Name>, &'a [LocatedToken]), ReadRefusal>
         ensures shorter { IfOk result (λ read. length read.1.now < length tokens.now) }
         ensures ok { IfOk result (λ read. Reads self.length item_next tokens.now read.0 read.1.now) }
         ensures err { IfErr result (Refuses self.length item_next tokens.now) }
@@ -49,7 +55,11 @@ impl Reader {
     }
 
     /// What follows the name of a declarator: a value, the words of an array, or nothing.
-    fn item_of<'a>(self, name: Mark<Name>, tokens: &'a [LocatedToken]) -> Result<(Item<Name>, &'a [LocatedToken]), ReadRefusal>
+    fn item_of<'a>(
+        self,
+        name: Mark<Name>,
+        tokens: &'a [LocatedToken],
+    ) -> Result<(Item<Name>, &'a [LocatedToken]), ReadRefusal>
         ensures shorter { IfOk result (λ read. length read.1.now ≤ length tokens.now) }
         ensures ok { IfOk result (λ read. Reads self.length (State.item_name name) tokens.now read.0 read.1.now) }
         ensures err { IfErr result (Refuses self.length (State.item_name name) tokens.now) }
@@ -58,19 +68,43 @@ impl Reader {
             let rest = self.accept(tokens, true)?;
             let (value, rest) = self.value(rest)?;
             let first = Some(value);
-            Ok((Item { name, slot: Slot::Scalar, first }, rest))
+            Ok((
+                Item {
+                    name,
+                    slot: Slot::Scalar,
+                    first,
+                },
+                rest,
+            ))
         } else if is_next(tokens, Sign::BracketOpen) {
             let rest = self.accept(tokens, true)?;
             let (words, rest) = self.array_words(rest)?;
             let rest = self.sign(rest, Sign::BracketClose)?;
-            Ok((Item { name, slot: Slot::Array(words), first: None }, rest))
+            Ok((
+                Item {
+                    name,
+                    slot: Slot::Array(words),
+                    first: None,
+                },
+                rest,
+            ))
         } else {
-            Ok((Item { name, slot: Slot::Scalar, first: None }, tokens))
+            Ok((
+                Item {
+                    name,
+                    slot: Slot::Scalar,
+                    first: None,
+                },
+                tokens,
+            ))
         }
     }
 
     /// The words of an array.
-    fn array_words<'a>(self, tokens: &'a [LocatedToken]) -> Result<(u32, &'a [LocatedToken]), ReadRefusal>
+    fn array_words<'a>(
+        self,
+        tokens: &'a [LocatedToken],
+    ) -> Result<(u32, &'a [LocatedToken]), ReadRefusal>
         ensures shorter { IfOk result (λ read. length read.1.now < length tokens.now) }
         ensures ok { IfOk result (λ read. Reads self.length State.array_words tokens.now read.0 read.1.now) }
         ensures err { IfErr result (Refuses self.length State.array_words tokens.now) }
@@ -120,7 +154,11 @@ pub(crate) fn statement_of(simple: Simple) -> Stmt<Name>
 
 impl Reader {
     /// An assignment or a call. What is counted at its first token is within its limit or not.
-    pub(crate) fn simple<'a>(self, tokens: &'a [LocatedToken], fits: bool) -> Result<(Simple, &'a [LocatedToken]), ReadRefusal>
+    pub(crate) fn simple<'a>(
+        self,
+        tokens: &'a [LocatedToken],
+        fits: bool,
+    ) -> Result<(Simple, &'a [LocatedToken]), ReadRefusal>
         ensures shorter { IfOk result (λ read. length read.1.now < length tokens.now) }
         ensures ok { IfOk result (λ read. ReadsSimple self.length fits tokens.now (statement_of read.0) read.1.now) }
         ensures err { IfErr result (RefusesSimple self.length fits tokens.now) }
@@ -146,7 +184,11 @@ impl Reader {
     }
 
     /// What follows the name that begins an assignment or a call.
-    pub(crate) fn simple_of<'a>(self, name: Mark<Name>, tokens: &'a [LocatedToken]) -> Result<(Simple, &'a [LocatedToken]), ReadRefusal>
+    pub(crate) fn simple_of<'a>(
+        self,
+        name: Mark<Name>,
+        tokens: &'a [LocatedToken],
+    ) -> Result<(Simple, &'a [LocatedToken]), ReadRefusal>
         ensures shorter { IfOk result (λ read. length read.1.now < length tokens.now) }
         ensures ok { IfOk result (λ read. Reads self.length (State.simple_name name) tokens.now (statement_of read.0) read.1.now) }
         ensures err { IfErr result (Refuses self.length (State.simple_name name) tokens.now) }
@@ -167,7 +209,10 @@ impl Reader {
     }
 
     /// What an assignment writes.
-    fn target<'a>(self, tokens: &'a [LocatedToken]) -> Result<(Target<Name>, &'a [LocatedToken]), ReadRefusal>
+    fn target<'a>(
+        self,
+        tokens: &'a [LocatedToken],
+    ) -> Result<(Target<Name>, &'a [LocatedToken]), ReadRefusal>
         ensures shorter { IfOk result (λ read. length read.1.now < length tokens.now) }
         ensures ok { IfOk result (λ read. Reads self.length State.target_next tokens.now read.0 read.1.now) }
         ensures err { IfErr result (Refuses self.length State.target_next tokens.now) }
@@ -184,7 +229,10 @@ impl Reader {
     }
 
     /// The target `*p`, behind the sign.
-    fn pointee<'a>(self, tokens: &'a [LocatedToken]) -> Result<(Target<Name>, &'a [LocatedToken]), ReadRefusal>
+    fn pointee<'a>(
+        self,
+        tokens: &'a [LocatedToken],
+    ) -> Result<(Target<Name>, &'a [LocatedToken]), ReadRefusal>
         ensures shorter { IfOk result (λ read. length read.1.now < length tokens.now) }
         ensures ok { IfOk result (λ read. Reads self.length pointee tokens.now read.0 read.1.now) }
         ensures err { IfErr result (Refuses self.length pointee tokens.now) }
@@ -194,7 +242,11 @@ impl Reader {
     }
 
     /// What follows the name of a target: an index, or nothing.
-    fn target_of<'a>(self, name: Mark<Name>, tokens: &'a [LocatedToken]) -> Result<(Target<Name>, &'a [LocatedToken]), ReadRefusal>
+    fn target_of<'a>(
+        self,
+        name: Mark<Name>,
+        tokens: &'a [LocatedToken],
+    ) -> Result<(Target<Name>, &'a [LocatedToken]), ReadRefusal>
         ensures shorter { IfOk result (λ read. length read.1.now ≤ length tokens.now) }
         ensures ok { IfOk result (λ read. Reads self.length (State.target_name name) tokens.now read.0 read.1.now) }
         ensures err { IfErr result (Refuses self.length (State.target_name name) tokens.now) }
@@ -209,7 +261,11 @@ impl Reader {
     }
 
     /// What follows the target of an assignment: its sign, and its value.
-    fn writing<'a>(self, target: Target<Name>, tokens: &'a [LocatedToken]) -> Result<(Simple, &'a [LocatedToken]), ReadRefusal>
+    fn writing<'a>(
+        self,
+        target: Target<Name>,
+        tokens: &'a [LocatedToken],
+    ) -> Result<(Simple, &'a [LocatedToken]), ReadRefusal>
         ensures shorter { IfOk result (λ read. length read.1.now < length tokens.now) }
         ensures ok { IfOk result (λ read. Reads self.length (State.writing target) tokens.now (statement_of read.0) read.1.now) }
         ensures err { IfErr result (Refuses self.length (State.writing target) tokens.now) }
@@ -231,7 +287,10 @@ impl Reader {
     }
 
     /// The name of a function, and the arguments of its call.
-    pub(crate) fn call<'a>(self, tokens: &'a [LocatedToken]) -> Result<(Call<Name>, &'a [LocatedToken]), ReadRefusal>
+    pub(crate) fn call<'a>(
+        self,
+        tokens: &'a [LocatedToken],
+    ) -> Result<(Call<Name>, &'a [LocatedToken]), ReadRefusal>
         ensures shorter { IfOk result (λ read. length read.1.now < length tokens.now) }
         ensures ok { IfOk result (λ read. Reads self.length call tokens.now read.0 read.1.now) }
         ensures err { IfErr result (Refuses self.length call tokens.now) }

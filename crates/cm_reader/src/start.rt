@@ -1,6 +1,5 @@
 //! What a part of a program begins with, by its first token.
 ghost use Rattle.std.specs.Prelude.{◌≡◌, Option};
-ghost use Rattle.cm_syntax.specs.ParseTree as grammar;
 ghost use Rattle.cm_syntax.specs.Token as machine;
 ghost use Rattle.cm_syntax.specs.Machine.{is_sign, is_word, sign_operator, update_operator};
 ghost use Rattle.cm_reader.specs.Next as next;
@@ -127,25 +126,6 @@ pub(crate) fn next_offset(tokens: &[LocatedToken]) -> u32
 }
 
 // ---- operators
-
-/// The level of an operator: one of a higher level binds tighter.
-pub(crate) fn level_of(op: Op) -> u32
-    ensures level { result ≡ grammar.level_of op }
-{
-    match op {
-        Op::Either => 1,
-        Op::Both => 2,
-        Op::Or => 3,
-        Op::Xor => 4,
-        Op::And => 5,
-        Op::Eq | Op::Ne => 6,
-        Op::Lt | Op::Le | Op::Gt | Op::Ge => 7,
-        Op::Shl | Op::Shr => 8,
-        Op::Add | Op::Sub => 9,
-        Op::Mul | Op::Div | Op::Rem => 10,
-        Op::Neg | Op::Not | Op::Flip => 11,
-    }
-}
 
 /// The binary operator that stands next.
 pub(crate) fn binary_operator(tokens: &[LocatedToken]) -> Option<Op>

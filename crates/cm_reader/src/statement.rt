@@ -11,7 +11,9 @@ ghost use Rattle.cm_reader.specs.Read.{Reads, Refuses, ReadsFlat, RefusesFlat, R
 use crate::cursor::Reader;
 use crate::refusal::ReadRefusal;
 use crate::simple::statement_of;
-use crate::start::{FlatStart, StatementStart, is_next, is_next_word, next_offset, statement_start};
+use crate::start::{
+    FlatStart, StatementStart, is_next, is_next_word, next_offset, statement_start,
+};
 use crate::token::LocatedToken;
 use cm_syntax::{Expr, Keyword, Mark, Name, Sign, Stmt, Target};
 use cm_text::List;
@@ -24,7 +26,12 @@ const MAX_DEPTH: u32 = 64;
 
 impl Reader {
     /// A statement at this depth that begins so and has no statement in it.
-    fn flat<'a>(self, tokens: &'a [LocatedToken], start: FlatStart, depth: u32) -> Result<(Stmt<Name>, &'a [LocatedToken]), ReadRefusal>
+    fn flat<'a>(
+        self,
+        tokens: &'a [LocatedToken],
+        start: FlatStart,
+        depth: u32,
+    ) -> Result<(Stmt<Name>, &'a [LocatedToken]), ReadRefusal>
         requires { next.statement_start tokens.now ≡ Flat start }
         ensures shorter { IfOk result (λ read. length read.1.now < length tokens.now) }
         ensures ok { IfOk result (λ read. ReadsFlat self.length depth tokens.now read.0 read.1.now) }
@@ -42,7 +49,11 @@ impl Reader {
     }
 
     /// A statement that begins with a name.
-    fn named_statement<'a>(self, tokens: &'a [LocatedToken], depth: u32) -> Result<(Stmt<Name>, &'a [LocatedToken]), ReadRefusal>
+    fn named_statement<'a>(
+        self,
+        tokens: &'a [LocatedToken],
+        depth: u32,
+    ) -> Result<(Stmt<Name>, &'a [LocatedToken]), ReadRefusal>
         requires { next.statement_start tokens.now ≡ Flat flats.Name }
         ensures shorter { IfOk result (λ read. length read.1.now < length tokens.now) }
         ensures ok { IfOk result (λ read. ReadsFlat self.length depth tokens.now read.0 read.1.now) }
@@ -54,7 +65,11 @@ impl Reader {
     }
 
     /// The statement `;`.
-    fn empty_statement<'a>(self, tokens: &'a [LocatedToken], depth: u32) -> Result<(Stmt<Name>, &'a [LocatedToken]), ReadRefusal>
+    fn empty_statement<'a>(
+        self,
+        tokens: &'a [LocatedToken],
+        depth: u32,
+    ) -> Result<(Stmt<Name>, &'a [LocatedToken]), ReadRefusal>
         requires { next.statement_start tokens.now ≡ Flat flats.Empty }
         ensures shorter { IfOk result (λ read. length read.1.now < length tokens.now) }
         ensures ok { IfOk result (λ read. ReadsFlat self.length depth tokens.now read.0 read.1.now) }
@@ -65,7 +80,11 @@ impl Reader {
     }
 
     /// A statement that begins with `return`.
-    fn return_statement<'a>(self, tokens: &'a [LocatedToken], depth: u32) -> Result<(Stmt<Name>, &'a [LocatedToken]), ReadRefusal>
+    fn return_statement<'a>(
+        self,
+        tokens: &'a [LocatedToken],
+        depth: u32,
+    ) -> Result<(Stmt<Name>, &'a [LocatedToken]), ReadRefusal>
         requires { next.statement_start tokens.now ≡ Flat flats.Return }
         ensures shorter { IfOk result (λ read. length read.1.now < length tokens.now) }
         ensures ok { IfOk result (λ read. ReadsFlat self.length depth tokens.now read.0 read.1.now) }
@@ -79,7 +98,11 @@ impl Reader {
     }
 
     /// A statement that begins with `print`.
-    fn print_statement<'a>(self, tokens: &'a [LocatedToken], depth: u32) -> Result<(Stmt<Name>, &'a [LocatedToken]), ReadRefusal>
+    fn print_statement<'a>(
+        self,
+        tokens: &'a [LocatedToken],
+        depth: u32,
+    ) -> Result<(Stmt<Name>, &'a [LocatedToken]), ReadRefusal>
         requires { next.statement_start tokens.now ≡ Flat flats.Print }
         ensures shorter { IfOk result (λ read. length read.1.now < length tokens.now) }
         ensures ok { IfOk result (λ read. ReadsFlat self.length depth tokens.now read.0 read.1.now) }
@@ -92,7 +115,11 @@ impl Reader {
     }
 
     /// The statement `sync;`.
-    fn sync_statement<'a>(self, tokens: &'a [LocatedToken], depth: u32) -> Result<(Stmt<Name>, &'a [LocatedToken]), ReadRefusal>
+    fn sync_statement<'a>(
+        self,
+        tokens: &'a [LocatedToken],
+        depth: u32,
+    ) -> Result<(Stmt<Name>, &'a [LocatedToken]), ReadRefusal>
         requires { next.statement_start tokens.now ≡ Flat flats.Sync }
         ensures shorter { IfOk result (λ read. length read.1.now < length tokens.now) }
         ensures ok { IfOk result (λ read. ReadsFlat self.length depth tokens.now read.0 read.1.now) }
@@ -105,7 +132,11 @@ impl Reader {
     }
 
     /// A statement that begins with `spawn`.
-    fn spawn_statement<'a>(self, tokens: &'a [LocatedToken], depth: u32) -> Result<(Stmt<Name>, &'a [LocatedToken]), ReadRefusal>
+    fn spawn_statement<'a>(
+        self,
+        tokens: &'a [LocatedToken],
+        depth: u32,
+    ) -> Result<(Stmt<Name>, &'a [LocatedToken]), ReadRefusal>
         requires { next.statement_start tokens.now ≡ Flat flats.Spawn }
         ensures shorter { IfOk result (λ read. length read.1.now < length tokens.now) }
         ensures ok { IfOk result (λ read. ReadsFlat self.length depth tokens.now read.0 read.1.now) }
@@ -118,7 +149,11 @@ impl Reader {
     }
 
     /// An assignment or a call that doesn't begin with a name.
-    fn simple_statement<'a>(self, tokens: &'a [LocatedToken], depth: u32) -> Result<(Stmt<Name>, &'a [LocatedToken]), ReadRefusal>
+    fn simple_statement<'a>(
+        self,
+        tokens: &'a [LocatedToken],
+        depth: u32,
+    ) -> Result<(Stmt<Name>, &'a [LocatedToken]), ReadRefusal>
         requires { next.statement_start tokens.now ≡ Flat flats.Simple }
         ensures shorter { IfOk result (λ read. length read.1.now < length tokens.now) }
         ensures ok { IfOk result (λ read. ReadsFlat self.length depth tokens.now read.0 read.1.now) }
@@ -130,7 +165,11 @@ impl Reader {
     }
 
     /// What follows the name that begins a statement.
-    fn named_parts<'a>(self, name: Mark<Name>, tokens: &'a [LocatedToken]) -> Result<(Stmt<Name>, &'a [LocatedToken]), ReadRefusal>
+    fn named_parts<'a>(
+        self,
+        name: Mark<Name>,
+        tokens: &'a [LocatedToken],
+    ) -> Result<(Stmt<Name>, &'a [LocatedToken]), ReadRefusal>
         ensures shorter { IfOk result (λ read. length read.1.now < length tokens.now) }
         ensures ok { IfOk result (λ read. Reads self.length (State.plain_name name) tokens.now read.0 read.1.now) }
         ensures err { IfErr result (Refuses self.length (State.plain_name name) tokens.now) }
@@ -147,7 +186,11 @@ impl Reader {
     }
 
     /// What follows a name and `=` that begin a statement: a spawn, or a value.
-    fn destination<'a>(self, name: Mark<Name>, tokens: &'a [LocatedToken]) -> Result<(Stmt<Name>, &'a [LocatedToken]), ReadRefusal>
+    fn destination<'a>(
+        self,
+        name: Mark<Name>,
+        tokens: &'a [LocatedToken],
+    ) -> Result<(Stmt<Name>, &'a [LocatedToken]), ReadRefusal>
         ensures shorter { IfOk result (λ read. length read.1.now < length tokens.now) }
         ensures ok { IfOk result (λ read. Reads self.length (State.destination name) tokens.now read.0 read.1.now) }
         ensures err { IfErr result (Refuses self.length (State.destination name) tokens.now) }
@@ -161,12 +204,24 @@ impl Reader {
             let (value, rest) = self.value(tokens)?;
             let rest = self.sign(rest, Sign::Semicolon)?;
             let target = Target::Scalar(name);
-            Ok((Stmt::Assign { target, op: None, value }, rest))
+            Ok((
+                Stmt::Assign {
+                    target,
+                    op: None,
+                    value,
+                },
+                rest,
+            ))
         }
     }
 
     /// The call of a spawn behind the word `spawn`, which has this offset, and the semicolon.
-    fn spawned<'a>(self, at: u32, target: Option<Mark<Name>>, tokens: &'a [LocatedToken]) -> Result<(Stmt<Name>, &'a [LocatedToken]), ReadRefusal>
+    fn spawned<'a>(
+        self,
+        at: u32,
+        target: Option<Mark<Name>>,
+        tokens: &'a [LocatedToken],
+    ) -> Result<(Stmt<Name>, &'a [LocatedToken]), ReadRefusal>
         ensures shorter { IfOk result (λ read. length read.1.now < length tokens.now) }
         ensures ok { IfOk result (λ read. Reads self.length (spawned at target) tokens.now read.0 read.1.now) }
         ensures err { IfErr result (Refuses self.length (spawned at target) tokens.now) }
@@ -177,7 +232,10 @@ impl Reader {
     }
 
     /// An expression, or nothing in front of `;`.
-    fn optional_value<'a>(self, tokens: &'a [LocatedToken]) -> Result<(Option<Expr<Name>>, &'a [LocatedToken]), ReadRefusal>
+    fn optional_value<'a>(
+        self,
+        tokens: &'a [LocatedToken],
+    ) -> Result<(Option<Expr<Name>>, &'a [LocatedToken]), ReadRefusal>
         ensures shorter { IfOk result (λ read. length read.1.now ≤ length tokens.now) }
         ensures ok { IfOk result (λ read. Reads self.length State.optional_value tokens.now read.0 read.1.now) }
         ensures err { IfErr result (Refuses self.length State.optional_value tokens.now) }
@@ -190,7 +248,10 @@ impl Reader {
     }
 
     /// The first part of a `for`.
-    fn first_part<'a>(self, tokens: &'a [LocatedToken]) -> Result<(Boxed<Stmt<Name>>, &'a [LocatedToken]), ReadRefusal>
+    fn first_part<'a>(
+        self,
+        tokens: &'a [LocatedToken],
+    ) -> Result<(Boxed<Stmt<Name>>, &'a [LocatedToken]), ReadRefusal>
         ensures shorter { IfOk result (λ read. length read.1.now ≤ length tokens.now) }
         ensures ok { IfOk result (λ read. Reads self.length State.first_part tokens.now read.0 read.1.now) }
         ensures err { IfErr result (Refuses self.length State.first_part tokens.now) }
@@ -211,7 +272,10 @@ impl Reader {
     }
 
     /// The last part of a `for`.
-    fn last_part<'a>(self, tokens: &'a [LocatedToken]) -> Result<(Boxed<Stmt<Name>>, &'a [LocatedToken]), ReadRefusal>
+    fn last_part<'a>(
+        self,
+        tokens: &'a [LocatedToken],
+    ) -> Result<(Boxed<Stmt<Name>>, &'a [LocatedToken]), ReadRefusal>
         ensures shorter { IfOk result (λ read. length read.1.now ≤ length tokens.now) }
         ensures ok { IfOk result (λ read. Reads self.length State.last_part tokens.now read.0 read.1.now) }
         ensures err { IfErr result (Refuses self.length State.last_part tokens.now) }
@@ -227,7 +291,18 @@ impl Reader {
     }
 
     /// What stands between `for` and its body: the three parts between parentheses.
-    fn turns<'a>(self, tokens: &'a [LocatedToken]) -> Result<(Boxed<Stmt<Name>>, Option<Expr<Name>>, Boxed<Stmt<Name>>, &'a [LocatedToken]), ReadRefusal>
+    fn turns<'a>(
+        self,
+        tokens: &'a [LocatedToken],
+    ) -> Result<
+        (
+            Boxed<Stmt<Name>>,
+            Option<Expr<Name>>,
+            Boxed<Stmt<Name>>,
+            &'a [LocatedToken],
+        ),
+        ReadRefusal,
+    >
         ensures shorter { IfOk result (λ read. length read.3.now < length tokens.now) }
         ensures ok { IfOk result (λ read. ReadsTurns self.length tokens.now read.0 read.1 read.2 read.3.now) }
         ensures err { IfErr result (RefusesTurns self.length tokens.now) }
@@ -244,7 +319,18 @@ impl Reader {
 
     /// What stands between `split` and its block: the array, the words of its left part, and the names of
     /// the parts.
-    fn parts<'a>(self, tokens: &'a [LocatedToken]) -> Result<(Mark<Name>, Expr<Name>, (Mark<Name>, Mark<Name>), &'a [LocatedToken]), ReadRefusal>
+    fn parts<'a>(
+        self,
+        tokens: &'a [LocatedToken],
+    ) -> Result<
+        (
+            Mark<Name>,
+            Expr<Name>,
+            (Mark<Name>, Mark<Name>),
+            &'a [LocatedToken],
+        ),
+        ReadRefusal,
+    >
         ensures shorter { IfOk result (λ read. length read.3.now < length tokens.now) }
         ensures ok { IfOk result (λ read. ReadsParts self.length tokens.now read.0 read.1 read.2.0 read.2.1 read.3.now) }
         ensures err { IfErr result (RefusesParts self.length tokens.now) }
@@ -266,7 +352,11 @@ impl Reader {
 impl Reader {
     /// The statements of a block at this depth behind `{`, and `}` with its offset.
     #[cycle(statement)]
-    pub(crate) fn statements<'a>(self, tokens: &'a [LocatedToken], depth: u32) -> Result<(List<Stmt<Name>>, u32, &'a [LocatedToken]), ReadRefusal>
+    pub(crate) fn statements<'a>(
+        self,
+        tokens: &'a [LocatedToken],
+        depth: u32,
+    ) -> Result<(List<Stmt<Name>>, u32, &'a [LocatedToken]), ReadRefusal>
         requires { depth ≤ 65 }
         ensures shorter { IfOk result (λ read. length read.2.now < length tokens.now) }
         ensures ok { IfOk result (λ read. ReadsBlock self.length depth tokens.now read.0 read.1 read.2.now) }
@@ -286,7 +376,11 @@ impl Reader {
 
     /// A statement of a block at this depth.
     #[cycle(statement)]
-    fn statement<'a>(self, tokens: &'a [LocatedToken], depth: u32) -> Result<(Stmt<Name>, &'a [LocatedToken]), ReadRefusal>
+    fn statement<'a>(
+        self,
+        tokens: &'a [LocatedToken],
+        depth: u32,
+    ) -> Result<(Stmt<Name>, &'a [LocatedToken]), ReadRefusal>
         requires depth { depth ≤ 65 }
         requires more { next.is_next BraceClose tokens.now ≡ false }
         ensures shorter { IfOk result (λ read. length read.1.now < length tokens.now) }
@@ -307,7 +401,12 @@ impl Reader {
     /// A statement at this depth that may be a body; the statements in it are at depth `inner` where it is a
     /// block.
     #[cycle(statement)]
-    fn plain<'a>(self, tokens: &'a [LocatedToken], depth: u32, inner: u32) -> Result<(Stmt<Name>, &'a [LocatedToken]), ReadRefusal>
+    fn plain<'a>(
+        self,
+        tokens: &'a [LocatedToken],
+        depth: u32,
+        inner: u32,
+    ) -> Result<(Stmt<Name>, &'a [LocatedToken]), ReadRefusal>
         requires { inner ≤ depth + 1 }
         ensures shorter { IfOk result (λ read. length read.1.now < length tokens.now) }
         ensures ok { IfOk result (λ read. Reads self.length (State.plain depth inner) tokens.now read.0 read.1.now) }
@@ -325,7 +424,12 @@ impl Reader {
 
     /// A block at this depth, whose statements are at depth `inner`.
     #[cycle(statement)]
-    fn block<'a>(self, tokens: &'a [LocatedToken], depth: u32, inner: u32) -> Result<(Stmt<Name>, &'a [LocatedToken]), ReadRefusal>
+    fn block<'a>(
+        self,
+        tokens: &'a [LocatedToken],
+        depth: u32,
+        inner: u32,
+    ) -> Result<(Stmt<Name>, &'a [LocatedToken]), ReadRefusal>
         requires inner { inner ≤ depth + 1 }
         requires start { next.statement_start tokens.now ≡ starts.Block }
         ensures shorter { IfOk result (λ read. length read.1.now < length tokens.now) }
@@ -339,7 +443,11 @@ impl Reader {
 
     /// A body of a statement at this depth.
     #[cycle(statement)]
-    fn body<'a>(self, tokens: &'a [LocatedToken], depth: u32) -> Result<(Stmt<Name>, &'a [LocatedToken]), ReadRefusal>
+    fn body<'a>(
+        self,
+        tokens: &'a [LocatedToken],
+        depth: u32,
+    ) -> Result<(Stmt<Name>, &'a [LocatedToken]), ReadRefusal>
         requires { depth ≤ 64 }
         ensures shorter { IfOk result (λ read. length read.1.now < length tokens.now) }
         ensures ok { IfOk result (λ read. Reads self.length (body depth) tokens.now read.0 read.1.now) }
@@ -351,7 +459,11 @@ impl Reader {
 
     /// A statement that begins with `if`.
     #[cycle(statement)]
-    fn if_statement<'a>(self, tokens: &'a [LocatedToken], depth: u32) -> Result<(Stmt<Name>, &'a [LocatedToken]), ReadRefusal>
+    fn if_statement<'a>(
+        self,
+        tokens: &'a [LocatedToken],
+        depth: u32,
+    ) -> Result<(Stmt<Name>, &'a [LocatedToken]), ReadRefusal>
         requires { next.statement_start tokens.now ≡ starts.If }
         ensures shorter { IfOk result (λ read. length read.1.now < length tokens.now) }
         ensures ok { IfOk result (λ read. ReadsFlat self.length depth tokens.now read.0 read.1.now) }
@@ -367,7 +479,11 @@ impl Reader {
 
     /// `else` and what follows it behind an `if` at this depth, or nothing.
     #[cycle(statement)]
-    fn otherwise<'a>(self, tokens: &'a [LocatedToken], depth: u32) -> Result<(Option<Boxed<Stmt<Name>>>, &'a [LocatedToken]), ReadRefusal>
+    fn otherwise<'a>(
+        self,
+        tokens: &'a [LocatedToken],
+        depth: u32,
+    ) -> Result<(Option<Boxed<Stmt<Name>>>, &'a [LocatedToken]), ReadRefusal>
         requires { depth ≤ 64 }
         ensures shorter { IfOk result (λ read. length read.1.now ≤ length tokens.now) }
         ensures ok { IfOk result (λ read. ReadsOther self.length depth tokens.now read.0 read.1.now) }
@@ -385,7 +501,11 @@ impl Reader {
 
     /// A statement that begins with `while`.
     #[cycle(statement)]
-    fn while_statement<'a>(self, tokens: &'a [LocatedToken], depth: u32) -> Result<(Stmt<Name>, &'a [LocatedToken]), ReadRefusal>
+    fn while_statement<'a>(
+        self,
+        tokens: &'a [LocatedToken],
+        depth: u32,
+    ) -> Result<(Stmt<Name>, &'a [LocatedToken]), ReadRefusal>
         requires { next.statement_start tokens.now ≡ starts.While }
         ensures shorter { IfOk result (λ read. length read.1.now < length tokens.now) }
         ensures ok { IfOk result (λ read. ReadsFlat self.length depth tokens.now read.0 read.1.now) }
@@ -400,7 +520,11 @@ impl Reader {
 
     /// A statement that begins with `for`.
     #[cycle(statement)]
-    fn for_statement<'a>(self, tokens: &'a [LocatedToken], depth: u32) -> Result<(Stmt<Name>, &'a [LocatedToken]), ReadRefusal>
+    fn for_statement<'a>(
+        self,
+        tokens: &'a [LocatedToken],
+        depth: u32,
+    ) -> Result<(Stmt<Name>, &'a [LocatedToken]), ReadRefusal>
         requires { next.statement_start tokens.now ≡ starts.For }
         ensures shorter { IfOk result (λ read. length read.1.now < length tokens.now) }
         ensures ok { IfOk result (λ read. ReadsFlat self.length depth tokens.now read.0 read.1.now) }
@@ -410,12 +534,24 @@ impl Reader {
         let (first, test, step, rest) = self.turns(rest)?;
         let (inside, rest) = self.body(rest, depth)?;
         let body = Boxed::new(self.alloc, inside)?;
-        Ok((Stmt::For { first, test, step, body }, rest))
+        Ok((
+            Stmt::For {
+                first,
+                test,
+                step,
+                body,
+            },
+            rest,
+        ))
     }
 
     /// A statement that begins with `split`.
     #[cycle(statement)]
-    fn split_statement<'a>(self, tokens: &'a [LocatedToken], depth: u32) -> Result<(Stmt<Name>, &'a [LocatedToken]), ReadRefusal>
+    fn split_statement<'a>(
+        self,
+        tokens: &'a [LocatedToken],
+        depth: u32,
+    ) -> Result<(Stmt<Name>, &'a [LocatedToken]), ReadRefusal>
         requires { next.statement_start tokens.now ≡ starts.Split }
         ensures shorter { IfOk result (λ read. length read.1.now < length tokens.now) }
         ensures ok { IfOk result (λ read. ReadsFlat self.length depth tokens.now read.0 read.1.now) }
@@ -424,6 +560,16 @@ impl Reader {
         let rest = self.accept(tokens, depth <= MAX_DEPTH)?;
         let (whole, place, (left, right), rest) = self.parts(rest)?;
         let (body, close, rest) = self.statements(rest, depth + 1)?;
-        Ok((Stmt::Split { whole, place, left, right, body, close }, rest))
+        Ok((
+            Stmt::Split {
+                whole,
+                place,
+                left,
+                right,
+                body,
+                close,
+            },
+            rest,
+        ))
     }
 }

@@ -30,11 +30,23 @@ const ROWS: [(&str, Answer); 56] = [
     ("012", Syntax(0)),
     ("12a", Syntax(0)),
     ("int f(#", Syntax(6)),
-    ("int main(){return 0;}//", Printed("int main ( ) { return 0 ; }")),
-    ("int/**/main(){/* /* */return/*/ */1;}", Printed("int main ( ) { return 1 ; }")),
+    (
+        "int main(){return 0;}//",
+        Printed("int main ( ) { return 0 ; }"),
+    ),
+    (
+        "int/**/main(){/* /* */return/*/ */1;}",
+        Printed("int main ( ) { return 1 ; }"),
+    ),
     ("int main(){int ints;ints=ints+++1;}", Syntax(29)),
-    ("int main(){int a;a=a- - -1;}", Printed("int main ( ) { int a ; a = a - - - 1 ; }")),
-    ("int main(){return 2147483647;}", Printed("int main ( ) { return 2147483647 ; }")),
+    (
+        "int main(){int a;a=a- - -1;}",
+        Printed("int main ( ) { int a ; a = a - - - 1 ; }"),
+    ),
+    (
+        "int main(){return 2147483647;}",
+        Printed("int main ( ) { return 2147483647 ; }"),
+    ),
     ("int main(){return 2147483648;}", Size(18)),
     ("int main(){return 99999999999999999999;}", Size(18)),
     ("int 2147483648", Syntax(4)),
@@ -68,13 +80,36 @@ const ROWS: [(&str, Answer); 56] = [
     ("int f(){a+=spawn f();}", Syntax(11)),
     ("int f(){f(&1);}", Syntax(11)),
     // trees
-    ("int f(int *p){p[0]++;return *p;}", Printed("int f ( int p [ ] ) { * p += 1 ; return * p ; }")),
-    ("void f(void){if(1)if(2);else;}", Printed("void f ( ) { if ( 1 ) if ( 2 ) ; else ; }")),
-    ("int f(){return 1-(2-3)-4;}", Printed("int f ( ) { return 1 - ( 2 - 3 ) - 4 ; }")),
-    ("int f(){return ((1*2))+3<<-4;}", Printed("int f ( ) { return 1 * 2 + 3 << - 4 ; }")),
-    ("cilk int f(int n){int x;x=spawn f(n);sync;return x;}", Printed("cilk int f ( int n ) { int x ; x = spawn f ( n ) ; sync ; return x ; }")),
-    ("int f(){for(;;){}}", Printed("int f ( ) { for ( ; ; ) { } }")),
-    ("int f(int a[]){split a at len(a)/2 as l,r{f(l);f(&r);}}", Printed("int f ( int a [ ] ) { split a at len ( a ) / 2 as l , r { f ( l ) ; f ( & r ) ; } }")),
+    (
+        "int f(int *p){p[0]++;return *p;}",
+        Printed("int f ( int p [ ] ) { * p += 1 ; return * p ; }"),
+    ),
+    (
+        "void f(void){if(1)if(2);else;}",
+        Printed("void f ( ) { if ( 1 ) if ( 2 ) ; else ; }"),
+    ),
+    (
+        "int f(){return 1-(2-3)-4;}",
+        Printed("int f ( ) { return 1 - ( 2 - 3 ) - 4 ; }"),
+    ),
+    (
+        "int f(){return ((1*2))+3<<-4;}",
+        Printed("int f ( ) { return 1 * 2 + 3 << - 4 ; }"),
+    ),
+    (
+        "cilk int f(int n){int x;x=spawn f(n);sync;return x;}",
+        Printed("cilk int f ( int n ) { int x ; x = spawn f ( n ) ; sync ; return x ; }"),
+    ),
+    (
+        "int f(){for(;;){}}",
+        Printed("int f ( ) { for ( ; ; ) { } }"),
+    ),
+    (
+        "int f(int a[]){split a at len(a)/2 as l,r{f(l);f(&r);}}",
+        Printed(
+            "int f ( int a [ ] ) { split a at len ( a ) / 2 as l , r { f ( l ) ; f ( & r ) ; } }",
+        ),
+    ),
     // one refusal behind another, and both at one offset
     ("int f(){return 2147483648 2;}", Size(15)),
     ("int f(){return 1 2147483648;}", Syntax(17)),
@@ -96,7 +131,13 @@ fn is_answered(alloc: Global, text: &[u8], answer: Answer) -> Result<bool, Fail>
 }
 
 /// A text, then a piece so many times, and then a text.
-fn repeated(alloc: Global, front: &str, piece: &str, count: usize, back: &str) -> Result<String, AllocError> {
+fn repeated(
+    alloc: Global,
+    front: &str,
+    piece: &str,
+    count: usize,
+    back: &str,
+) -> Result<String, AllocError> {
     let mut text = String::from_str(alloc, front)?;
     for _ in 0..count {
         text.push_str(piece)?;
@@ -115,7 +156,13 @@ fn texts(rt: HostRuntime) -> Result<(), Fail> {
 }
 
 /// Whether a text with so many pieces is accepted.
-fn is_accepted(alloc: Global, front: &str, piece: &str, count: usize, back: &str) -> Result<bool, Fail> {
+fn is_accepted(
+    alloc: Global,
+    front: &str,
+    piece: &str,
+    count: usize,
+    back: &str,
+) -> Result<bool, Fail> {
     let text = repeated(alloc, front, piece, count, back)?;
     Ok(read(alloc, text.as_bytes()).is_ok())
 }
@@ -134,6 +181,12 @@ fn limits(rt: HostRuntime) -> Result<(), Fail> {
     for (front, piece, count, back) in rows {
         assert!(rt; is_accepted(alloc, front, piece, count, back)?, "{front}");
     }
+    // the text with the most open calls of the reader
+    let front = repeated(alloc, "int f(){", "{", 63, "return ")?;
+    let unary = repeated(alloc, "", "-", 64, "(")?;
+    let inside = repeated(alloc, "1", ")", 64, ";")?;
+    let back = repeated(alloc, inside.as_str(), "}", 64, "")?;
+    assert!(rt; is_accepted(alloc, front.as_str(), unary.as_str(), 64, back.as_str())?);
     let deep = repeated(alloc, "int f(){", "while(1)", 64, ";}")?;
     assert!(rt; is_answered(alloc, deep.as_bytes(), Size(520))?);
     let signs = repeated(alloc, "int f(){return ", "-", 65, "1;}")?;

@@ -84,12 +84,12 @@ expression-expression-requires t c =
 pub expression-returns-in_err-right-clause-err : goal.expression-returns-in_err-right-clause-err
 expression-returns-in_err-right-clause-err t c =
     err_same _ c.from_residual-in_err-right.result c.in_err-right.field-0.0 c.from_residual-in_err-right.ensures.1
-    (λ k. refused_on _ (c.loop-op.invariant.reads k ∙ c.in_ok-behind.ensures.ok (State.operators c.args.level c.loop-op.count c.loop-op.left k) _ (operator_goes c.args.level c.loop-op.count c.level_of.result c.loop-op.left k c.in-Some.op c.loop-op.rest.now c.level_of.ensures.level c.in-Some.ensures.found)) (c.in_err-right.ensures.err (λ right m. State.operators c.args.level m (expression.Binary c.in-Some.op c.loop-op.left right) k)))
+    (λ k. refused_on _ (c.loop-op.invariant.reads k ∙ c.in_ok-behind.ensures.ok (State.operators c.args.level c.loop-op.count c.loop-op.left k) _ (operator_goes c.args.level c.loop-op.count c.level_of.result c.loop-op.left k c.in-Some.op c.loop-op.rest.now c.level_of.ensures c.in-Some.ensures.found)) (c.in_err-right.ensures.err (λ right m. State.operators c.args.level m (expression.Binary c.in-Some.op c.loop-op.left right) k)))
 
 pub expression-loop-op-preserved : goal.expression-loop-op-preserved
 expression-loop-op-preserved t c =
     record {
-      reads = λ k. c.loop-op.invariant.reads k ∙ (c.in_ok-behind.ensures.ok (State.operators c.args.level c.loop-op.count c.loop-op.left k) _ (operator_goes c.args.level c.loop-op.count c.level_of.result c.loop-op.left k c.in-Some.op c.loop-op.rest.now c.level_of.ensures.level c.in-Some.ensures.found) ∙ (c.in_ok-right.ensures.ok (λ right m. State.operators c.args.level m (expression.Binary c.in-Some.op c.loop-op.left right) k) ∙ ap (λ e. answer c.args.self.length (State.operators c.args.level c.in_ok-right.more e k) c.in_ok-right.end.now) (sym c.in_ok-left-2.ensures.ok)));
+      reads = λ k. c.loop-op.invariant.reads k ∙ (c.in_ok-behind.ensures.ok (State.operators c.args.level c.loop-op.count c.loop-op.left k) _ (operator_goes c.args.level c.loop-op.count c.level_of.result c.loop-op.left k c.in-Some.op c.loop-op.rest.now c.level_of.ensures c.in-Some.ensures.found) ∙ (c.in_ok-right.ensures.ok (λ right m. State.operators c.args.level m (expression.Binary c.in-Some.op c.loop-op.left right) k) ∙ ap (λ e. answer c.args.self.length (State.operators c.args.level c.in_ok-right.more e k) c.in_ok-right.end.now) (sym c.in_ok-left-2.ensures.ok)));
       shorter = omega (arith, c.in_ok-right.ensures.shorter, c.in_ok-behind.ensures.shorter, c.loop-op.invariant.shorter);
       few = c.in_ok-right.ensures.few;
     }

@@ -245,8 +245,8 @@ statements-loop-rest-preserved t c =
 pub statements-returns-in_err-rest-clause-err : goal.statements-returns-in_err-rest-clause-err
 statements-returns-in_err-rest-clause-err t c =
     err_same _ c.from_residual-in_err-rest.result c.in_err-rest.field-0.0 c.from_residual-in_err-rest.ensures.1
-    (λ k. refused_on _ (c.loop-rest.invariant.reads k) (c.in_err-rest.ensures.err (State.statements c.args.depth c.loop-rest.statements k) _ (close_goes c.args.depth c.loop-rest.statements k c.loop-rest.rest.now (sym c.is_next.ensures ∙ c.loop-rest-test.true))))
+    (λ k. refused_on _ (c.loop-rest.invariant.reads k) (c.in_err-rest.ensures.err (State.statements c.args.depth c.loop-rest.statements k) _ (close_goes c.args.depth c.loop-rest.statements k c.loop-rest.rest.now (sym c.is_next.ensures ∙ c.loop-rest-test.false))))
 
 pub statements-returns-clause-ok : goal.statements-returns-clause-ok
 statements-returns-clause-ok t c =
-    λ k. c.loop-rest.invariant.reads k ∙ (c.in_ok-rest.ensures.ok (State.statements c.args.depth c.loop-rest.statements k) _ (close_goes c.args.depth c.loop-rest.statements k c.loop-rest.rest.now (sym c.is_next.ensures ∙ c.loop-rest-test.true)) ∙ ap (λ at. answer c.args.self.length (k c.loop-rest.statements at) c.in_ok-rest.rest.now) (sym c.next_offset-close.ensures))
+    λ k. c.loop-rest.invariant.reads k ∙ (c.in_ok-rest.ensures.ok (State.statements c.args.depth c.loop-rest.statements k) _ (close_goes c.args.depth c.loop-rest.statements k c.loop-rest.rest.now (sym c.is_next.ensures ∙ c.loop-rest-test.false)) ∙ ap (λ at. answer c.args.self.length (k c.loop-rest.statements at) c.in_ok-rest.rest.now) (sym c.next_offset-close.ensures))

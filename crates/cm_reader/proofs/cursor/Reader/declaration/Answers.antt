@@ -11,6 +11,18 @@ use Rattle.cm_reader.proofs.StepLaws.{err_same, refused_on, ok_map, err_map}
 use Rattle.cm_reader.proofs.SimpleLaws.{item_comma_goes, items_end}
 use Rattle.cm_reader.proofs.cursor.Reader.declaration.Goals as goal
 
+pub returns-in_err-first-clause-err : goal.returns-in_err-first-clause-err
+returns-in_err-first-clause-err c =
+    err_same _ c.from_residual.result c.in_err-first.field-0.0 c.from_residual.ensures.1
+    (λ k. c.in_err-first.ensures.err (λ one. State.more_items (one ∷ []) k))
+
+pub loop-self-init : goal.loop-self-init
+loop-self-init c =
+    record {
+      reads = λ k. c.in_ok-first.ensures.ok (λ one. State.more_items (one ∷ []) k) ∙ ap (λ xs. answer c.args.self.length (State.more_items xs k) c.in_ok-first.rest.now) (sym (c.in_ok-push.ensures.ok ∙ ap (λ xs. xs ++ c.in_ok-first.first ∷ []) c.new-items.ensures));
+      shorter = c.in_ok-first.ensures.shorter;
+    }
+
 pub returns-in_err-behind-clause-err : goal.returns-in_err-behind-clause-err
 returns-in_err-behind-clause-err c =
     err_same _ c.from_residual-in_err-behind.result c.in_err-behind.field-0.0 c.from_residual-in_err-behind.ensures.1
