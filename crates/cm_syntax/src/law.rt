@@ -79,7 +79,7 @@ pub fn one_count()
 {}
 
 /// Syntax is refused at one offset at most.
-pub fn one_syntax_place()
+pub fn one_syntax_offset()
     ensures { (bytes : List ℕ) (i j : ℕ) → Syntax bytes i → Syntax bytes j → i ≡ j }
 {}
 
