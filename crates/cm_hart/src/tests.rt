@@ -6,7 +6,7 @@ ghost use Rattle.cm_isa.specs.Operation.{Operation};
 ghost use Rattle.cm_isa.specs.View.{slice_view};
 ghost use Rattle.cm_hart.specs.Step.{HasHartOutcome, MayStep, hart_outcome};
 
-use super::{Halt, Hart, step};
+use super::{Halt, Hart, machine_steps_are_allowed, step};
 use cm_asm::Image;
 use cm_isa::{FaultKind, Regs, Shown, Words};
 use cm_text::List;
@@ -117,6 +117,7 @@ fn steps(rt: HostRuntime) -> Result<(), Fail> {
     assert_eq!(rt; (hart.pc, hart.regs.get(5)), (32, 77));
     let child = hart.regs.clone()?;
     assert_eq!(rt; (child.get(5), child.get(31)), (77, 6));
+    machine_steps_are_allowed();
     Ok(())
 }
 

@@ -1,6 +1,6 @@
 //! Words as an assembler makes them, and effects at corner values.
 
-use super::{FaultKind, Instr, Kind, Next, Regs, Shown, Words, decode, effect, encode};
+use super::*;
 use std::test::Fail;
 
 /// A word as LLVM's assembler makes it, with the fields of its instruction, rd, rs1, rs2 and imm; and the
@@ -88,6 +88,13 @@ fn rows(rt: HostRuntime) -> Result<(), Fail> {
     for word in STRANGERS {
         assert!(rt; decode(word).is_none(), "at {word}");
     }
+    // the laws, each of which does nothing
+    one_instruction_per_word(0x73);
+    one_word_per_instruction(0x73, 0x73);
+    runs_join_and_split();
+    replies_determine_runs();
+    runs_keep_more_words();
+    machines_do_what_outcomes_say();
     Ok(())
 }
 
