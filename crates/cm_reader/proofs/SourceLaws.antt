@@ -15,7 +15,6 @@ use Rattle.cm_syntax.specs.Offset.{without_offsets}
 use Rattle.cm_syntax.specs.Machine.{State, start, Next, goes, stops, is_within, NestedToken, nested_tokens, readable, capped, Answer, accepted, refused, step, finish, end_answer, token_answer, run, IsAnswerTo}
 use Rattle.cm_syntax.proofs.refusing.OneAnswer.{IsAnswer-one}
 use Rattle.cm_syntax.proofs.machine.trace.OneTree.{IsSourceOf-one}
-use Rattle.cm_syntax.proofs.machine.NumberCap.{capped_text}
 use Rattle.cm_syntax.proofs.machine.SourceText.{tokens_of, answer_to, answered}
 use Rattle.cm_syntax.proofs.printing.ProgramPrinting.{canonical_reads_back}
 use Rattle.cm_reader.specs.declared.token.LocatedToken.{LocatedToken}
@@ -24,6 +23,7 @@ use Rattle.cm_reader.specs.declared.refusal.ReadRefusal.TheVariants as refusal
 use Rattle.cm_reader.specs.Next.{nested}
 use Rattle.cm_reader.specs.Read.{answer, IsRefusal}
 use Rattle.cm_reader.specs.Answer.{IsRefusalOf, refusal_of, Gives}
+use Rattle.cm_reader.proofs.LexerLaws.{tokens_answer}
 
 -- ---- beyond the limit of a source, the length doesn't matter
 
@@ -60,7 +60,7 @@ pub text_answer : (bytes : List ℕ) (items tokens : List LocatedToken) (length'
 text_answer bytes items tokens length' same are is =
     let all = lexed (length bytes) 0 bytes in
     ap (answer length' start) same ∙ counted (length bytes) length' start (nested tokens) is ∙
-    (ap (run (length bytes) start) (are all (tokens_of bytes)) ∙ capped_text all (length bytes))
+    tokens_answer all (nested tokens) (length bytes) (are all (tokens_of bytes))
 
 pub read_functions : (bytes : List ℕ) (items tokens : List LocatedToken) (length' : ℕ) (functions : List (Function Name)) → items ≡ tokens → AreTokens bytes tokens → length' ≡ min (length bytes) (max_source_bytes + 1) →
     answer length' start items ≡ accepted functions → IsSourceOf bytes (record { functions = functions; length = length' }) × HasNoRefusal bytes
