@@ -173,7 +173,7 @@ fn limits(rt: HostRuntime) -> Result<(), Fail> {
     // 63 loops and an empty statement, 64 brackets, 64 operators; and one more
     let rows = [
         ("int f(){", "while(1)", 63, ";}"),
-        ("int f(){return ", "-", 64, "1;}"),
+        ("int f(){return ", "~", 64, "1;}"),
         ("int f(){return 0", "+0", 64, ";}"),
         ("int f(){return f(0", ",0", 4000, ");}"),
         ("int f(){", ";", 65527, "}"),
@@ -181,15 +181,15 @@ fn limits(rt: HostRuntime) -> Result<(), Fail> {
     for (front, piece, count, back) in rows {
         assert!(rt; is_accepted(alloc, front, piece, count, back)?, "{front}");
     }
-    // the text with the most open calls of the reader
+    // the text that takes most of the host's stack
     let front = repeated(alloc, "int f(){", "{", 63, "return ")?;
-    let unary = repeated(alloc, "", "-", 64, "(")?;
+    let unary = repeated(alloc, "", "~", 64, "(")?;
     let inside = repeated(alloc, "1", ")", 64, ";")?;
     let back = repeated(alloc, inside.as_str(), "}", 64, "")?;
     assert!(rt; is_accepted(alloc, front.as_str(), unary.as_str(), 64, back.as_str())?);
     let deep = repeated(alloc, "int f(){", "while(1)", 64, ";}")?;
     assert!(rt; is_answered(alloc, deep.as_bytes(), Size(520))?);
-    let signs = repeated(alloc, "int f(){return ", "-", 65, "1;}")?;
+    let signs = repeated(alloc, "int f(){return ", "~", 65, "1;}")?;
     assert!(rt; is_answered(alloc, signs.as_bytes(), Size(79))?);
     let open = repeated(alloc, "int f(){return ", "(", 65, "")?;
     assert!(rt; is_answered(alloc, open.as_bytes(), Size(79))?);
