@@ -15,261 +15,95 @@ use Rattle.cm_syntax.specs.Token.{begins, is_reserved}
 pub is_same-equal : (a b : List ℕ) → is_same a b ≡ true → a ≡ b
 is_same-equal a b = (bytes_decides a b).0
 
--- each word is found by its text
+-- each word is found by its text, begins with a letter, has letters alone, and none is set aside
+spelled_word : (k : Keyword) → (keyword_written (keyword_text k) ≡ Some k) × (begins is_letter (keyword_text k) ≡ true) ×
+    (list_all is_word_byte (keyword_text k) ≡ true) × (is_reserved (keyword_text k) ≡ false)
+spelled_word word.Int = (refl, refl, refl, refl)
+spelled_word word.Void = (refl, refl, refl, refl)
+spelled_word word.Cilk = (refl, refl, refl, refl)
+spelled_word word.Spawn = (refl, refl, refl, refl)
+spelled_word word.Sync = (refl, refl, refl, refl)
+spelled_word word.If = (refl, refl, refl, refl)
+spelled_word word.Else = (refl, refl, refl, refl)
+spelled_word word.While = (refl, refl, refl, refl)
+spelled_word word.For = (refl, refl, refl, refl)
+spelled_word word.Return = (refl, refl, refl, refl)
+spelled_word word.Print = (refl, refl, refl, refl)
+spelled_word word.Input = (refl, refl, refl, refl)
+spelled_word word.Inputs = (refl, refl, refl, refl)
+spelled_word word.Len = (refl, refl, refl, refl)
+spelled_word word.Split = (refl, refl, refl, refl)
+spelled_word word.At = (refl, refl, refl, refl)
+spelled_word word.As = (refl, refl, refl, refl)
+
 pub keyword_written-text : (k : Keyword) → keyword_written (keyword_text k) ≡ Some k
-keyword_written-text word.Int = refl
-keyword_written-text word.Void = refl
-keyword_written-text word.Cilk = refl
-keyword_written-text word.Spawn = refl
-keyword_written-text word.Sync = refl
-keyword_written-text word.If = refl
-keyword_written-text word.Else = refl
-keyword_written-text word.While = refl
-keyword_written-text word.For = refl
-keyword_written-text word.Return = refl
-keyword_written-text word.Print = refl
-keyword_written-text word.Input = refl
-keyword_written-text word.Inputs = refl
-keyword_written-text word.Len = refl
-keyword_written-text word.Split = refl
-keyword_written-text word.At = refl
-keyword_written-text word.As = refl
+keyword_written-text k = (spelled_word k).0
 
--- it begins with a letter
 pub keyword_begins : (k : Keyword) → begins is_letter (keyword_text k) ≡ true
-keyword_begins word.Int = refl
-keyword_begins word.Void = refl
-keyword_begins word.Cilk = refl
-keyword_begins word.Spawn = refl
-keyword_begins word.Sync = refl
-keyword_begins word.If = refl
-keyword_begins word.Else = refl
-keyword_begins word.While = refl
-keyword_begins word.For = refl
-keyword_begins word.Return = refl
-keyword_begins word.Print = refl
-keyword_begins word.Input = refl
-keyword_begins word.Inputs = refl
-keyword_begins word.Len = refl
-keyword_begins word.Split = refl
-keyword_begins word.At = refl
-keyword_begins word.As = refl
+keyword_begins k = (spelled_word k).1
 
--- and has letters alone
 pub keyword_bytes : (k : Keyword) → list_all is_word_byte (keyword_text k) ≡ true
-keyword_bytes word.Int = refl
-keyword_bytes word.Void = refl
-keyword_bytes word.Cilk = refl
-keyword_bytes word.Spawn = refl
-keyword_bytes word.Sync = refl
-keyword_bytes word.If = refl
-keyword_bytes word.Else = refl
-keyword_bytes word.While = refl
-keyword_bytes word.For = refl
-keyword_bytes word.Return = refl
-keyword_bytes word.Print = refl
-keyword_bytes word.Input = refl
-keyword_bytes word.Inputs = refl
-keyword_bytes word.Len = refl
-keyword_bytes word.Split = refl
-keyword_bytes word.At = refl
-keyword_bytes word.As = refl
+keyword_bytes k = (spelled_word k).2
 
--- and none is set aside
 pub keyword_free : (k : Keyword) → is_reserved (keyword_text k) ≡ false
-keyword_free word.Int = refl
-keyword_free word.Void = refl
-keyword_free word.Cilk = refl
-keyword_free word.Spawn = refl
-keyword_free word.Sync = refl
-keyword_free word.If = refl
-keyword_free word.Else = refl
-keyword_free word.While = refl
-keyword_free word.For = refl
-keyword_free word.Return = refl
-keyword_free word.Print = refl
-keyword_free word.Input = refl
-keyword_free word.Inputs = refl
-keyword_free word.Len = refl
-keyword_free word.Split = refl
-keyword_free word.At = refl
-keyword_free word.As = refl
+keyword_free k = (spelled_word k).3
 
--- each sign is found by its text
+-- each sign is found by its text, begins with no letter, digit, `_` or white space, and has one to three bytes
+spelled_sign : (s : Sign) → (sign_written (sign_text s) ≡ Some s) × (begins is_word_byte (sign_text s) ≡ false) ×
+    (begins is_space (sign_text s) ≡ false) × (0 < length (sign_text s)) × (length (sign_text s) ≤ 3)
+spelled_sign sign.ShiftLeftAssign = (refl, refl, refl, omega arith, omega arith)
+spelled_sign sign.ShiftRightAssign = (refl, refl, refl, omega arith, omega arith)
+spelled_sign sign.ShiftLeft = (refl, refl, refl, omega arith, omega arith)
+spelled_sign sign.ShiftRight = (refl, refl, refl, omega arith, omega arith)
+spelled_sign sign.LessEqual = (refl, refl, refl, omega arith, omega arith)
+spelled_sign sign.GreaterEqual = (refl, refl, refl, omega arith, omega arith)
+spelled_sign sign.Equal = (refl, refl, refl, omega arith, omega arith)
+spelled_sign sign.NotEqual = (refl, refl, refl, omega arith, omega arith)
+spelled_sign sign.AndAnd = (refl, refl, refl, omega arith, omega arith)
+spelled_sign sign.OrOr = (refl, refl, refl, omega arith, omega arith)
+spelled_sign sign.PlusAssign = (refl, refl, refl, omega arith, omega arith)
+spelled_sign sign.MinusAssign = (refl, refl, refl, omega arith, omega arith)
+spelled_sign sign.StarAssign = (refl, refl, refl, omega arith, omega arith)
+spelled_sign sign.SlashAssign = (refl, refl, refl, omega arith, omega arith)
+spelled_sign sign.PercentAssign = (refl, refl, refl, omega arith, omega arith)
+spelled_sign sign.AndAssign = (refl, refl, refl, omega arith, omega arith)
+spelled_sign sign.CaretAssign = (refl, refl, refl, omega arith, omega arith)
+spelled_sign sign.OrAssign = (refl, refl, refl, omega arith, omega arith)
+spelled_sign sign.PlusPlus = (refl, refl, refl, omega arith, omega arith)
+spelled_sign sign.MinusMinus = (refl, refl, refl, omega arith, omega arith)
+spelled_sign sign.Plus = (refl, refl, refl, omega arith, omega arith)
+spelled_sign sign.Minus = (refl, refl, refl, omega arith, omega arith)
+spelled_sign sign.Star = (refl, refl, refl, omega arith, omega arith)
+spelled_sign sign.Slash = (refl, refl, refl, omega arith, omega arith)
+spelled_sign sign.Percent = (refl, refl, refl, omega arith, omega arith)
+spelled_sign sign.Less = (refl, refl, refl, omega arith, omega arith)
+spelled_sign sign.Greater = (refl, refl, refl, omega arith, omega arith)
+spelled_sign sign.Assign = (refl, refl, refl, omega arith, omega arith)
+spelled_sign sign.Exclamation = (refl, refl, refl, omega arith, omega arith)
+spelled_sign sign.Tilde = (refl, refl, refl, omega arith, omega arith)
+spelled_sign sign.Ampersand = (refl, refl, refl, omega arith, omega arith)
+spelled_sign sign.Caret = (refl, refl, refl, omega arith, omega arith)
+spelled_sign sign.Bar = (refl, refl, refl, omega arith, omega arith)
+spelled_sign sign.ParenOpen = (refl, refl, refl, omega arith, omega arith)
+spelled_sign sign.ParenClose = (refl, refl, refl, omega arith, omega arith)
+spelled_sign sign.BraceOpen = (refl, refl, refl, omega arith, omega arith)
+spelled_sign sign.BraceClose = (refl, refl, refl, omega arith, omega arith)
+spelled_sign sign.BracketOpen = (refl, refl, refl, omega arith, omega arith)
+spelled_sign sign.BracketClose = (refl, refl, refl, omega arith, omega arith)
+spelled_sign sign.Comma = (refl, refl, refl, omega arith, omega arith)
+spelled_sign sign.Semicolon = (refl, refl, refl, omega arith, omega arith)
+
 pub sign_written-text : (s : Sign) → sign_written (sign_text s) ≡ Some s
-sign_written-text sign.ShiftLeftAssign = refl
-sign_written-text sign.ShiftRightAssign = refl
-sign_written-text sign.ShiftLeft = refl
-sign_written-text sign.ShiftRight = refl
-sign_written-text sign.LessEqual = refl
-sign_written-text sign.GreaterEqual = refl
-sign_written-text sign.Equal = refl
-sign_written-text sign.NotEqual = refl
-sign_written-text sign.AndAnd = refl
-sign_written-text sign.OrOr = refl
-sign_written-text sign.PlusAssign = refl
-sign_written-text sign.MinusAssign = refl
-sign_written-text sign.StarAssign = refl
-sign_written-text sign.SlashAssign = refl
-sign_written-text sign.PercentAssign = refl
-sign_written-text sign.AndAssign = refl
-sign_written-text sign.CaretAssign = refl
-sign_written-text sign.OrAssign = refl
-sign_written-text sign.PlusPlus = refl
-sign_written-text sign.MinusMinus = refl
-sign_written-text sign.Plus = refl
-sign_written-text sign.Minus = refl
-sign_written-text sign.Star = refl
-sign_written-text sign.Slash = refl
-sign_written-text sign.Percent = refl
-sign_written-text sign.Less = refl
-sign_written-text sign.Greater = refl
-sign_written-text sign.Assign = refl
-sign_written-text sign.Exclamation = refl
-sign_written-text sign.Tilde = refl
-sign_written-text sign.Ampersand = refl
-sign_written-text sign.Caret = refl
-sign_written-text sign.Bar = refl
-sign_written-text sign.ParenOpen = refl
-sign_written-text sign.ParenClose = refl
-sign_written-text sign.BraceOpen = refl
-sign_written-text sign.BraceClose = refl
-sign_written-text sign.BracketOpen = refl
-sign_written-text sign.BracketClose = refl
-sign_written-text sign.Comma = refl
-sign_written-text sign.Semicolon = refl
+sign_written-text s = (spelled_sign s).0
 
--- it begins with no letter, digit or `_`
 pub sign_begins : (s : Sign) → begins is_word_byte (sign_text s) ≡ false
-sign_begins sign.ShiftLeftAssign = refl
-sign_begins sign.ShiftRightAssign = refl
-sign_begins sign.ShiftLeft = refl
-sign_begins sign.ShiftRight = refl
-sign_begins sign.LessEqual = refl
-sign_begins sign.GreaterEqual = refl
-sign_begins sign.Equal = refl
-sign_begins sign.NotEqual = refl
-sign_begins sign.AndAnd = refl
-sign_begins sign.OrOr = refl
-sign_begins sign.PlusAssign = refl
-sign_begins sign.MinusAssign = refl
-sign_begins sign.StarAssign = refl
-sign_begins sign.SlashAssign = refl
-sign_begins sign.PercentAssign = refl
-sign_begins sign.AndAssign = refl
-sign_begins sign.CaretAssign = refl
-sign_begins sign.OrAssign = refl
-sign_begins sign.PlusPlus = refl
-sign_begins sign.MinusMinus = refl
-sign_begins sign.Plus = refl
-sign_begins sign.Minus = refl
-sign_begins sign.Star = refl
-sign_begins sign.Slash = refl
-sign_begins sign.Percent = refl
-sign_begins sign.Less = refl
-sign_begins sign.Greater = refl
-sign_begins sign.Assign = refl
-sign_begins sign.Exclamation = refl
-sign_begins sign.Tilde = refl
-sign_begins sign.Ampersand = refl
-sign_begins sign.Caret = refl
-sign_begins sign.Bar = refl
-sign_begins sign.ParenOpen = refl
-sign_begins sign.ParenClose = refl
-sign_begins sign.BraceOpen = refl
-sign_begins sign.BraceClose = refl
-sign_begins sign.BracketOpen = refl
-sign_begins sign.BracketClose = refl
-sign_begins sign.Comma = refl
-sign_begins sign.Semicolon = refl
+sign_begins s = (spelled_sign s).1
 
--- and with no white space
 pub sign_black : (s : Sign) → begins is_space (sign_text s) ≡ false
-sign_black sign.ShiftLeftAssign = refl
-sign_black sign.ShiftRightAssign = refl
-sign_black sign.ShiftLeft = refl
-sign_black sign.ShiftRight = refl
-sign_black sign.LessEqual = refl
-sign_black sign.GreaterEqual = refl
-sign_black sign.Equal = refl
-sign_black sign.NotEqual = refl
-sign_black sign.AndAnd = refl
-sign_black sign.OrOr = refl
-sign_black sign.PlusAssign = refl
-sign_black sign.MinusAssign = refl
-sign_black sign.StarAssign = refl
-sign_black sign.SlashAssign = refl
-sign_black sign.PercentAssign = refl
-sign_black sign.AndAssign = refl
-sign_black sign.CaretAssign = refl
-sign_black sign.OrAssign = refl
-sign_black sign.PlusPlus = refl
-sign_black sign.MinusMinus = refl
-sign_black sign.Plus = refl
-sign_black sign.Minus = refl
-sign_black sign.Star = refl
-sign_black sign.Slash = refl
-sign_black sign.Percent = refl
-sign_black sign.Less = refl
-sign_black sign.Greater = refl
-sign_black sign.Assign = refl
-sign_black sign.Exclamation = refl
-sign_black sign.Tilde = refl
-sign_black sign.Ampersand = refl
-sign_black sign.Caret = refl
-sign_black sign.Bar = refl
-sign_black sign.ParenOpen = refl
-sign_black sign.ParenClose = refl
-sign_black sign.BraceOpen = refl
-sign_black sign.BraceClose = refl
-sign_black sign.BracketOpen = refl
-sign_black sign.BracketClose = refl
-sign_black sign.Comma = refl
-sign_black sign.Semicolon = refl
+sign_black s = (spelled_sign s).2
 
--- and has one to three bytes
 pub sign_short : (s : Sign) → (0 < length (sign_text s)) × (length (sign_text s) ≤ 3)
-sign_short sign.ShiftLeftAssign = (omega arith, omega arith)
-sign_short sign.ShiftRightAssign = (omega arith, omega arith)
-sign_short sign.ShiftLeft = (omega arith, omega arith)
-sign_short sign.ShiftRight = (omega arith, omega arith)
-sign_short sign.LessEqual = (omega arith, omega arith)
-sign_short sign.GreaterEqual = (omega arith, omega arith)
-sign_short sign.Equal = (omega arith, omega arith)
-sign_short sign.NotEqual = (omega arith, omega arith)
-sign_short sign.AndAnd = (omega arith, omega arith)
-sign_short sign.OrOr = (omega arith, omega arith)
-sign_short sign.PlusAssign = (omega arith, omega arith)
-sign_short sign.MinusAssign = (omega arith, omega arith)
-sign_short sign.StarAssign = (omega arith, omega arith)
-sign_short sign.SlashAssign = (omega arith, omega arith)
-sign_short sign.PercentAssign = (omega arith, omega arith)
-sign_short sign.AndAssign = (omega arith, omega arith)
-sign_short sign.CaretAssign = (omega arith, omega arith)
-sign_short sign.OrAssign = (omega arith, omega arith)
-sign_short sign.PlusPlus = (omega arith, omega arith)
-sign_short sign.MinusMinus = (omega arith, omega arith)
-sign_short sign.Plus = (omega arith, omega arith)
-sign_short sign.Minus = (omega arith, omega arith)
-sign_short sign.Star = (omega arith, omega arith)
-sign_short sign.Slash = (omega arith, omega arith)
-sign_short sign.Percent = (omega arith, omega arith)
-sign_short sign.Less = (omega arith, omega arith)
-sign_short sign.Greater = (omega arith, omega arith)
-sign_short sign.Assign = (omega arith, omega arith)
-sign_short sign.Exclamation = (omega arith, omega arith)
-sign_short sign.Tilde = (omega arith, omega arith)
-sign_short sign.Ampersand = (omega arith, omega arith)
-sign_short sign.Caret = (omega arith, omega arith)
-sign_short sign.Bar = (omega arith, omega arith)
-sign_short sign.ParenOpen = (omega arith, omega arith)
-sign_short sign.ParenClose = (omega arith, omega arith)
-sign_short sign.BraceOpen = (omega arith, omega arith)
-sign_short sign.BraceClose = (omega arith, omega arith)
-sign_short sign.BracketOpen = (omega arith, omega arith)
-sign_short sign.BracketClose = (omega arith, omega arith)
-sign_short sign.Comma = (omega arith, omega arith)
-sign_short sign.Semicolon = (omega arith, omega arith)
+sign_short s = ((spelled_sign s).3, (spelled_sign s).4)
 
 -- one text is of one word, and of one sign
 pub keyword_text-injective : (j k : Keyword) → keyword_text j ≡ keyword_text k → j ≡ k
