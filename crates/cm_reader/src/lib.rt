@@ -18,6 +18,3 @@ mod token;
 pub use printer::write;
 pub use refusal::ReadRefusal;
 pub use source::read;
-
-#[cfg(test)]
-mod tests;

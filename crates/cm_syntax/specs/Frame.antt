@@ -1,5 +1,5 @@
 -- The words of a function's frame: two that are saved, its slots, and the temporaries of its expressions.
-use Rattle.std.specs.Prelude.{ℕ, ◌+◌, ◌*◌, ◌/◌, max, Bool, true, false, if◌then◌else◌, Option, None, Some, List, [], ◌∷◌}
+use Rattle.std.specs.Prelude.{ℕ, ◌+◌, ◌*◌, ◌/◌, max, min, Bool, true, false, if◌then◌else◌, Option, None, Some, List, [], ◌∷◌}
 use Rattle.cm_syntax.specs.declared.expr.Op.{Op}
 use Rattle.cm_syntax.specs.declared.expr.Op.TheVariants.{Both, Either}
 use Rattle.cm_syntax.specs.declared.expr.Expr.{Expr}
@@ -16,6 +16,7 @@ use Rattle.cm_syntax.specs.declared.stmt.Target.TheVariants as target
 use Rattle.cm_syntax.specs.declared.stmt.Stmt.{Stmt, Row_of-Stmt, end_of-Stmt, more_of-Stmt}
 use Rattle.cm_syntax.specs.declared.stmt.Stmt.TheVariants as statement
 use Rattle.cm_syntax.specs.declared.stmt.Function.{Function}
+use Rattle.cm_syntax.specs.Limit.{max_frame_words}
 use Rattle.cm_syntax.specs.Shape.{Joined, Prefixed, Element, InputAt, IfAlone, IfElse, WhileLoop, ForLoop}
 
 -- an operator that stops early, so that its left operand isn't kept
@@ -128,3 +129,7 @@ rounded_frame slots temporaries = (2 + slots + temporaries + 3) / 4 * 4
 -- the words of a function's frame, of a program
 abbrev pub frame_words : Function ℕ → ℕ
 frame_words function = rounded_frame (slots_words function.slots) (body_temporaries function.body)
+
+-- a count that stops at one more than the words of the greatest frame
+abbrev pub capped : ℕ → ℕ
+capped words = min words (max_frame_words + 1)

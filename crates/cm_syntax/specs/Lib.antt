@@ -17,4 +17,13 @@ pub mod Offset
 pub mod Resolution
 pub mod Number
 pub mod Fault
+pub mod Walk
+pub mod Evaluation
+pub mod Lending
+pub mod Trap
+pub mod Operator
+pub mod Label
+pub mod Stack
+pub mod Rest
+pub mod Step
 pub mod Row

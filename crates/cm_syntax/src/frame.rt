@@ -1,11 +1,20 @@
 //! The words of a function's frame: two that are saved, its slots, and its temporaries.
-ghost use Rattle.std.specs.Prelude.{◌≡◌, ◌+◌, ◌*◌, ◌≤◌, if◌then◌else◌};
+//!
+//! Temporaries are counted up to one more than the words of the greatest frame, so that no sum wraps.
+ghost use Rattle.std.specs.Prelude.{◌≡◌, ◌+◌, ◌*◌, ◌<◌, ◌≤◌, if◌then◌else◌, MatchOption};
 ghost use Rattle.cm_syntax.specs.Frame as frame;
+ghost use Rattle.cm_syntax.specs.Frame.{capped};
 ghost use Rattle.cm_syntax.specs.Limit.{max_frame_words};
 ghost use Rattle.cm_syntax.specs.declared.expr.Expr.TheVariants as expression;
 
 use crate::expr::{Arg, Call, Expr, Op};
 use crate::stmt::{Function, Item, Slot, Stmt, Target};
+
+/// The words of the greatest frame.
+const MAX_FRAME_WORDS: u32 = 32_768;
+
+/// Where a count of temporaries stops.
+const TOO_MANY_WORDS: u32 = MAX_FRAME_WORDS + 1;
 
 /// The words of a function's frame: two for the return address and the caller's frame pointer, then its
 /// slots, then its temporaries, rounded up to a multiple of 4. They have to be within the limit of a frame,
@@ -15,9 +24,10 @@ pub fn frame_words(function: &Function<u32>) -> u32
     requires { frame.frame_words function.now ≤ max_frame_words }
     ensures { result ≡ frame.frame_words function.now }
 {
-    let slots = slots_words(function.slots.items());
-    let temporaries = statements_temporaries(function.body.items());
-    (2 + slots + temporaries + 3) / 4 * 4
+    match checked_frame_words(function.slots.items(), function.body.items()) {
+        Some(words) => words,
+        None => unreachable!(),
+    }
 }
 
 /// The bytes of a function's frame, 4 for each of its words, under the same condition. It takes no memory.
@@ -28,16 +38,33 @@ pub fn frame_bytes(function: &Function<u32>) -> u32
     4 * frame_words(function)
 }
 
-/// The words of all slots.
-fn slots_words(slots: &[Slot]) -> u32
-    requires { frame.slots_words slots.now ≤ max_frame_words }
-    ensures { result ≡ frame.slots_words slots.now }
+/// The words of a frame with these slots and this body, counted as for `frame_words`. `None` comes exactly
+/// where they are more than the limit of a frame, 32,768. It takes no memory.
+pub fn checked_frame_words<N>(slots: &[Slot], body: &[Stmt<N>]) -> Option<u32>
+    ensures { let words = frame.rounded_frame (frame.slots_words slots.now) (frame.body_temporaries body.now) in
+        MatchOption result (max_frame_words < words) (λ counted. (counted ≡ words) × (words ≤ max_frame_words)) }
 {
-    let mut words = 0;
-    for slot in slots {
-        words += slot_words(*slot);
+    let slots = checked_slots_words(slots, MAX_FRAME_WORDS)?;
+    let temporaries = statements_temporaries(body);
+    let words = (2 + slots + temporaries + 3) / 4 * 4;
+    if words <= MAX_FRAME_WORDS {
+        Some(words)
+    } else {
+        None
     }
-    words
+}
+
+/// The words of all slots: a scalar has one, an array as many as its length, a slice two. `None` comes exactly
+/// where they are more than `limit`. It takes no memory.
+pub fn checked_slots_words(slots: &[Slot], limit: u32) -> Option<u32>
+    ensures { let words = frame.slots_words slots.now in
+        MatchOption result (limit < words) (λ counted. (counted ≡ words) × (words ≤ limit)) }
+{
+    let mut words: u32 = 0;
+    for slot in slots {
+        words = words.checked_add(slot_words(*slot))?;
+    }
+    if words <= limit { Some(words) } else { None }
 }
 
 /// The words of a slot.
@@ -53,11 +80,10 @@ fn slot_words(slot: Slot) -> u32
 
 /// The greatest number of temporaries of the statements, one after another.
 #[cycle(statement)]
-fn statements_temporaries(statements: &[Stmt<u32>]) -> u32
-    requires { frame.body_temporaries statements.now ≤ max_frame_words }
-    ensures { result ≡ frame.body_temporaries statements.now }
+fn statements_temporaries<N>(statements: &[Stmt<N>]) -> u32
+    ensures { result ≡ capped (frame.body_temporaries statements.now) }
 {
-    let mut most = 0;
+    let mut most: u32 = 0;
     for statement in statements {
         most = most.max(statement_temporaries(statement));
     }
@@ -67,9 +93,8 @@ fn statements_temporaries(statements: &[Stmt<u32>]) -> u32
 /// The greatest number of temporaries of the expressions of a statement, each of which begins with none
 /// in use.
 #[cycle(statement)]
-fn statement_temporaries(statement: &Stmt<u32>) -> u32
-    requires { frame.statement_temporaries statement.now ≤ max_frame_words }
-    ensures { result ≡ frame.statement_temporaries statement.now }
+fn statement_temporaries<N>(statement: &Stmt<N>) -> u32
+    ensures { result ≡ capped (frame.statement_temporaries statement.now) }
 {
     match statement {
         Stmt::Empty => 0,
@@ -107,11 +132,10 @@ fn statement_temporaries(statement: &Stmt<u32>) -> u32
 }
 
 /// The greatest number of temporaries of the values that declared variables begin with.
-fn items_temporaries(items: &[Item<u32>]) -> u32
-    requires { frame.items_temporaries items.now ≤ max_frame_words }
-    ensures { result ≡ frame.items_temporaries items.now }
+fn items_temporaries<N>(items: &[Item<N>]) -> u32
+    ensures { result ≡ capped (frame.items_temporaries items.now) }
 {
-    let mut most = 0;
+    let mut most: u32 = 0;
     for item in items {
         most = most.max(optional_temporaries(&item.first));
     }
@@ -120,9 +144,8 @@ fn items_temporaries(items: &[Item<u32>]) -> u32
 
 /// The temporaries of an assignment. The value of an element begins with the element's address in a
 /// temporary.
-fn assignment_temporaries(target: &Target<u32>, value: &Expr<u32>) -> u32
-    requires { frame.assignment_temporaries target.now value.now ≤ max_frame_words }
-    ensures { result ≡ frame.assignment_temporaries target.now value.now }
+fn assignment_temporaries<N>(target: &Target<N>, value: &Expr<N>) -> u32
+    ensures { result ≡ capped (frame.assignment_temporaries target.now value.now) }
 {
     match target {
         Target::Scalar(_) => temporaries(value, 0),
@@ -131,9 +154,8 @@ fn assignment_temporaries(target: &Target<u32>, value: &Expr<u32>) -> u32
 }
 
 /// The temporaries of an expression that may not be there, which begins with none in use.
-fn optional_temporaries(value: &Option<Expr<u32>>) -> u32
-    requires { frame.optional_temporaries value.now ≤ max_frame_words }
-    ensures { result ≡ frame.optional_temporaries value.now }
+fn optional_temporaries<N>(value: &Option<Expr<N>>) -> u32
+    ensures { result ≡ capped (frame.optional_temporaries value.now) }
 {
     match value {
         None => 0,
@@ -144,9 +166,9 @@ fn optional_temporaries(value: &Option<Expr<u32>>) -> u32
 /// The temporaries that are in use, at most, while an expression is evaluated of which `depth` are in
 /// use before.
 #[cycle(expression)]
-fn temporaries(value: &Expr<u32>, depth: u32) -> u32
-    requires { frame.temporaries value.now depth ≤ max_frame_words }
-    ensures { result ≡ frame.temporaries value.now depth }
+fn temporaries<N>(value: &Expr<N>, depth: u32) -> u32
+    requires { depth ≤ max_frame_words + 1 }
+    ensures { result ≡ capped (frame.temporaries value.now depth) }
 {
     match value {
         Expr::Number(_) => depth,
@@ -167,35 +189,35 @@ fn temporaries(value: &Expr<u32>, depth: u32) -> u32
 /// The temporaries in use before the right operand: one more than before the left one, which is kept,
 /// unless the operator stops early.
 fn right_depth(op: Op, depth: u32) -> u32
-    requires { depth ≤ max_frame_words }
-    ensures { result ≡ if frame.is_short_circuit op then depth else depth + 1 }
+    requires { depth ≤ max_frame_words + 1 }
+    ensures { result ≡ capped (if frame.is_short_circuit op then depth else depth + 1) }
 {
     match op {
         Op::Both | Op::Either => depth,
-        _ => depth + 1,
+        _ => (depth + 1).min(TOO_MANY_WORDS),
     }
 }
 
 /// The same as `temporaries` of a call, whose arguments are kept from temporary `depth` on.
 #[cycle(expression)]
-fn call_temporaries(call: &Call<u32>, depth: u32) -> u32
-    requires { frame.temporaries (expression.Call call.now) depth ≤ max_frame_words }
-    ensures { result ≡ frame.temporaries (expression.Call call.now) depth }
+fn call_temporaries<N>(call: &Call<N>, depth: u32) -> u32
+    requires { depth ≤ max_frame_words + 1 }
+    ensures { result ≡ capped (frame.temporaries (expression.Call call.now) depth) }
 {
     let mut used = depth;
     let mut most = depth;
     for argument in call.arguments.items() {
         most = most.max(argument_temporaries(argument, used));
-        used += argument_words(argument);
+        used = (used + argument_words(argument)).min(TOO_MANY_WORDS);
     }
     most.max(used)
 }
 
 /// The same of an argument, with `depth` in use before it.
 #[cycle(expression)]
-fn argument_temporaries(argument: &Arg<u32>, depth: u32) -> u32
-    requires { frame.argument_temporaries argument.now depth ≤ max_frame_words }
-    ensures { result ≡ frame.argument_temporaries argument.now depth }
+fn argument_temporaries<N>(argument: &Arg<N>, depth: u32) -> u32
+    requires { depth ≤ max_frame_words + 1 }
+    ensures { result ≡ capped (frame.argument_temporaries argument.now depth) }
 {
     match argument {
         Arg::Value(value) => temporaries(value, depth),
@@ -205,8 +227,9 @@ fn argument_temporaries(argument: &Arg<u32>, depth: u32) -> u32
 }
 
 /// The words that an argument takes: a value one, a slice its address and its length.
-fn argument_words(argument: &Arg<u32>) -> u32
-    ensures { result ≡ frame.argument_words argument.now }
+fn argument_words<N>(argument: &Arg<N>) -> u32
+    ensures words { result ≡ frame.argument_words argument.now }
+    ensures few { result ≤ 2 }
 {
     match argument {
         Arg::Value(_) => 1,

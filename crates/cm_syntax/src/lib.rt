@@ -4,6 +4,7 @@
 //! prints nothing.
 #![tactic(auto)]
 
+mod checked;
 mod expr;
 mod frame;
 mod law;
@@ -11,8 +12,9 @@ mod name;
 mod stmt;
 mod token;
 
+pub use checked::Checked;
 pub use expr::{Arg, Call, Expr, Mark, Op};
-pub use frame::{frame_bytes, frame_words};
+pub use frame::{checked_frame_words, checked_slots_words, frame_bytes, frame_words};
 pub use law::{
     answers_of_machine, canonical_source, every_text_is_answered, faulty_sources,
     frame_words_agree, frames_of_sound_programs, frames_of_sources, grammar_members,

@@ -1,5 +1,5 @@
 -- The machine answers the same whatever a number is that is beyond each limit.
-use Rattle.std.proofs.Common.{◌≡◌, ℕ, ◌+◌, ◌-◌, ◌<◌, Bool, true, false, ◌&&◌, None, List, [], ◌∷◌, refl, ap, ◌∙◌, arith}
+use Rattle.std.proofs.Common.{◌≡◌, ℕ, ◌+◌, ◌-◌, ◌<◌, Bool, true, false, ◌&&◌, List, [], ◌∷◌, refl, ap, ◌∙◌, arith}
 use Rattle.std.specs.Prelude.{⊤, nat_lt, map, if◌then◌else◌}
 use Rattle.std.proofs.lemmas.Bool.{ltb-true}
 use Rattle.std.proofs.lemmas.Bool.Decides.{nat_tests}
@@ -9,7 +9,7 @@ use Rattle.cm_syntax.specs.Token.{Token, LocatedToken, token_at}
 use Rattle.cm_syntax.specs.ParseTree.{Offset}
 use Rattle.cm_syntax.specs.Yield.{Quantity}
 use Rattle.cm_syntax.specs.Refusal.{is_opening, is_closing}
-use Rattle.cm_syntax.specs.Machine.{State, Next, goes, stops, step, item, is_within, Answer, token_answer, run, nested_tokens, readable, capped, capped_token, start, text_answer}
+use Rattle.cm_syntax.specs.Machine.{State, Next, goes, stops, step, is_within, Answer, token_answer, run, nested_tokens, readable, capped, capped_token, start, text_answer}
 
 -- both aren't wanted, or what is counted at both is beyond its limit
 abbrev pub BothRefused : Next → Next → Type 0
