@@ -1,0 +1,8 @@
+pub mod Answer
+pub mod Found
+pub mod Finding
+pub mod FunctionTable
+pub mod Role
+pub mod Visible
+pub mod Argument
+pub mod Passing
