@@ -12,7 +12,6 @@ use Rattle.cm_isa.specs.Run.{call, call_of, replied_machine, silent}
 use Rattle.cm_isa.specs.View.{View}
 use Rattle.cm_isa.specs.declared.convention.TheConstants as reg
 use Rattle.cm_isa.specs.declared.execution.FaultKind.{FaultKind}
-use Rattle.cm_isa.specs.declared.memory.Shown.{Shown}
 use Rattle.cm_isa.specs.declared.memory.Shown.TheVariants.{Place, Outside}
 use Rattle.cm_isa.proofs.Machine.{put_register}
 use Rattle.cm_hart.specs.Step.{MayStep, hart_machine}

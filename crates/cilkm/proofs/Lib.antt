@@ -1,6 +1,6 @@
-pub mod TokenLaws
-pub mod ChainLaws
-pub mod FormLaws
-pub mod OneTree
+pub mod CutLaws
+pub mod FirstLaws
+pub mod SourceLaws
 pub mod HartLaws
+pub mod AcceptedLaws
 pub mod StillLaws

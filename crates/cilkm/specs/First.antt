@@ -1,95 +1,20 @@
--- The first form of source text: `int main() { return E; }`, where E joins literals by `+`, `-` and `*`.
-use Rattle.std.specs.Prelude.{ℕ, ◌≤◌, List, length, Bool, true, false, ◌==◌, ◌||◌, codes}
+-- The programs of the first form: `main` alone, which returns an expression of literals, `+`, `-` and `*`.
+use Rattle.std.specs.Prelude.{◌≡◌, ℕ, ◌≤◌, false, [], ◌∷◌, Some}
 use Rattle.cm_syntax.specs.declared.expr.Expr.{Expr}
-use Rattle.cm_syntax.specs.declared.expr.Expr.TheVariants.{Number}
-use Rattle.cm_syntax.specs.declared.expr.Op.{Op}
-use Rattle.cm_syntax.specs.declared.expr.Op.TheVariants.{Mul, Add, Sub}
-use Rattle.cm_syntax.specs.Limit.{max_operators, max_source_bytes}
-use Rattle.cm_syntax.specs.Shape.{Joined}
-use Rattle.cm_syntax.specs.Expr.{operator_count}
-use Rattle.cilkm.specs.Scan.{IsWhite, TokenAt, WordAt, LiteralAt}
+use Rattle.cm_syntax.specs.declared.stmt.Stmt.TheVariants as statement
+use Rattle.cm_syntax.specs.declared.stmt.Function.{Function}
+use Rattle.cm_syntax.specs.declared.stmt.Program.{Program}
+use Rattle.cm_syntax.specs.Limit.{max_operators}
+use Rattle.cm_syntax.specs.Expr.{operator_count, IsClosed}
 
--- The sign of the operator stands next, and rest follows. An operator that the form doesn't have stands nowhere.
-abbrev pub SignAt : Op → List ℕ → List ℕ → Type 0
-SignAt Mul bytes rest = TokenAt (codes "*") bytes rest
-SignAt Add bytes rest = TokenAt (codes "+") bytes rest
-SignAt Sub bytes rest = TokenAt (codes "-") bytes rest
-SignAt _ bytes rest = ⊥
-
--- `+` and `-`
-abbrev pub is_additive : Op → Bool
-is_additive Add = true
-is_additive Sub = true
-is_additive _ = false
-
--- `*`
-abbrev pub is_multiplicative : Op → Bool
-is_multiplicative Mul = true
-is_multiplicative _ = false
-
--- A left operand stands next, then the operator's sign, then a right operand, and rest follows.
-pub record Joins (Left : List ℕ → List ℕ → Type 0) (op : Op) (Right : List ℕ → List ℕ → Type 0) (bytes rest : List ℕ) : Type 0 where
-  pub at_sign : List ℕ
-  pub after_sign : List ℕ
-  pub left : Left bytes at_sign
-  pub sign : SignAt op at_sign after_sign
-  pub right : Right after_sign rest
-
--- The expression is a literal, which stands next, and rest follows.
-abbrev pub IsFactor : Expr ℕ → List ℕ → List ℕ → Type 0
-IsFactor (Number n) bytes rest = LiteralAt n bytes rest
-IsFactor _ bytes rest = ⊥
-
--- The expression is a literal, or a product and a literal with `*` between them: it stands next, and rest follows.
-abbrev pub IsProduct : Expr ℕ → List ℕ → List ℕ → Type 0
-IsProduct (Number n) bytes rest = LiteralAt n bytes rest
-IsProduct (Joined Mul left right) bytes rest = Joins (IsProduct left) Mul (IsFactor right) bytes rest
-IsProduct _ bytes rest = ⊥
-
--- The expression is a product, or a sum and a product with `+` or `-` between them: it stands next, and rest follows.
-abbrev pub IsSum : Expr ℕ → List ℕ → List ℕ → Type 0
-IsSum (Number n) bytes rest = IsProduct (Number n) bytes rest
-IsSum (Joined Mul left right) bytes rest = IsProduct (Joined Mul left right) bytes rest
-IsSum (Joined Add left right) bytes rest = Joins (IsSum left) Add (IsProduct right) bytes rest
-IsSum (Joined Sub left right) bytes rest = Joins (IsSum left) Sub (IsProduct right) bytes rest
-IsSum _ bytes rest = ⊥
-
--- `int main() { return` stands at the front, and rest follows.
-pub record Opens (bytes rest : List ℕ) : Type 0 where
-  pub after_int : List ℕ
-  pub after_main : List ℕ
-  pub after_opening : List ℕ
-  pub after_closing : List ℕ
-  pub after_brace : List ℕ
-  pub int_at : WordAt (codes "int") bytes after_int
-  pub main_at : WordAt (codes "main") after_int after_main
-  pub opening_at : TokenAt (codes "(") after_main after_opening
-  pub closing_at : TokenAt (codes ")") after_opening after_closing
-  pub brace_at : TokenAt (codes "{") after_closing after_brace
-  pub return_at : WordAt (codes "return") after_brace rest
-
--- `; }` stands at the front, and nothing but white space follows.
-pub record Closes (bytes : List ℕ) : Type 0 where
-  pub after_semicolon : List ℕ
-  pub rest : List ℕ
-  pub semicolon_at : TokenAt (codes ";") bytes after_semicolon
-  pub brace_at : TokenAt (codes "}") after_semicolon rest
-  pub white : IsWhite rest
-
--- The bytes are a source of the first form, whose `main` returns this expression.
-pub record IsFirstForm (bytes : List ℕ) (expression : Expr ℕ) : Type 0 where
-  pub text : List ℕ
-  pub rest : List ℕ
-  pub opens : Opens bytes text
-  pub sum : IsSum expression text rest
-  pub closes : Closes rest
-  pub few_signs : operator_count expression ≤ max_operators
-  pub short : length bytes ≤ max_source_bytes
-
--- a byte that is a sign
-abbrev pub is_sign : ℕ → Bool
-is_sign byte = byte == 42 || byte == 43 || byte == 45
-
--- The sign of the operator doesn't stand next.
-abbrev pub NoSignAt : Op → List ℕ → Type 0
-NoSignAt op bytes = (rest : List ℕ) → SignAt op bytes rest → ⊥
+-- The program has one function, which isn't marked `cilk`, and its body is one `return` of the expression. That has
+-- literals and `+`, `-` and `*` alone, and so few operators in all, brackets or not, that each partial result has a
+-- place in the frame: the code of the form is made for no more of them.
+pub record IsFirstForm (program : Program) (expression : Expr ℕ) : Type 0 where
+  pub main : Function ℕ
+  pub at : ℕ
+  pub alone : program.functions ≡ main ∷ []
+  pub plain : main.cilk ≡ false
+  pub body : main.body ≡ statement.Return at (Some expression) ∷ []
+  pub closed : IsClosed expression
+  pub few_operators : operator_count expression ≤ max_operators

@@ -1,5 +1,6 @@
-pub mod Scan
+pub mod Cut
 pub mod First
 pub mod Stack
 pub mod Run
+pub mod Source
 pub mod Verdict

@@ -6,15 +6,15 @@ use Rattle.std.specs.Fmt.{decimal, signed_decimal}
 use Rattle.std.specs.Io.KnownBytes.{Appends}
 use Rattle.cm_text.specs.Count.{Rose}
 use Rattle.cm_text.specs.Transfer.{TookFront}
-use Rattle.cm_syntax.specs.declared.expr.Expr.{Expr}
-use Rattle.cilkm.specs.First.{IsFirstForm}
-use Rattle.cilkm.specs.Run.{IsRunOf}
+use Rattle.cm_syntax.specs.declared.stmt.Program.{Program}
+use Rattle.cilkm.specs.Cut.{IsCut}
+use Rattle.cilkm.specs.Source.{HasAccepted, IsRefusedBy, RunsAs}
 use Rattle.cilkm.specs.declared.command.Command.{Command}
-use Rattle.cilkm.specs.declared.command.Command.TheVariants.{Serial}
-use Rattle.cilkm.specs.declared.verdict.Refusal.{Refusal}
-use Rattle.cilkm.specs.declared.verdict.Refusal.TheVariants.{Syntax}
+use Rattle.cilkm.specs.declared.command.Command.TheVariants.{Check, Serial}
+use Rattle.cilkm.specs.declared.refusal.Refusal.{Refusal}
+use Rattle.cilkm.specs.declared.refusal.Refusal.TheVariants as refusal
 use Rattle.cilkm.specs.declared.verdict.Verdict.{Verdict}
-use Rattle.cilkm.specs.declared.verdict.Verdict.TheVariants.{Usage, Read, Long, Refused, Value, Memory}
+use Rattle.cilkm.specs.declared.verdict.Verdict.TheVariants.{Usage, Read, Long, Refused, Accepted, Value, Memory}
 
 -- ---- the command
 
@@ -24,7 +24,7 @@ texts words = map (λ word. word.now) words
 
 -- the command of the words after the program's name, and None where they are no command
 abbrev pub command_of : List (List ℕ) → Option Command
-command_of (word ∷ []) = if bytes_eq word (codes "serial") then Some Serial else None
+command_of (word ∷ []) = if bytes_eq word (codes "check") then Some Check else if bytes_eq word (codes "serial") then Some Serial else None
 command_of _ = None
 
 -- ---- texts and statuses
@@ -35,14 +35,31 @@ max_input = 4194304
 
 -- the word of a refusal
 abbrev pub refusal_word : Refusal → List ℕ
-refusal_word Syntax = codes "syntax"
+refusal_word refusal.Syntax = codes "syntax"
+refusal_word refusal.Size = codes "size"
+refusal_word refusal.Unknown = codes "unknown"
+refusal_word refusal.Twice = codes "twice"
+refusal_word refusal.Arity = codes "arity"
+refusal_word refusal.Kind = codes "kind"
+refusal_word refusal.NoMain = codes "nomain"
+refusal_word refusal.Frame = codes "frame"
+refusal_word refusal.Count = codes "count"
+refusal_word (refusal.Lent spawn) = codes "lent"
+refusal_word refusal.Same = codes "same"
+refusal_word refusal.Later = codes "later"
+
+-- the line of a refusal at an offset: of a lent mention it names the spawn too
+abbrev pub refusal_text : (at : ℕ) → Refusal → List ℕ
+refusal_text at (refusal.Lent spawn) = codes "refused " ++ (decimal at ++ (codes " " ++ (refusal_word (refusal.Lent spawn) ++ (codes " " ++ (decimal spawn ++ codes "\n")))))
+refusal_text at why = codes "refused " ++ (decimal at ++ (codes " " ++ (refusal_word why ++ codes "\n")))
 
 -- what is printed
 abbrev pub verdict_text : Verdict → List ℕ
 verdict_text Usage = codes "usage\n"
 verdict_text Read = codes "read\n"
 verdict_text Long = codes "long\n"
-verdict_text (Refused offset refusal) = codes "refused " ++ (decimal offset ++ (codes " " ++ (refusal_word refusal ++ codes "\n")))
+verdict_text (Refused offset why) = refusal_text offset why
+verdict_text Accepted = codes "accepted\n"
 verdict_text (Value run) = codes "value " ++ (signed_decimal run.value ++ codes "\n")
 verdict_text Memory = codes "memory\n"
 
@@ -51,19 +68,31 @@ abbrev pub verdict_status : Verdict → ℕ
 verdict_status Usage = 2
 verdict_status Read = 5
 verdict_status Long = 8
-verdict_status (Refused offset refusal) = 1
+verdict_status (Refused offset why) = 1
+verdict_status Accepted = 0
 verdict_status (Value run) = 0
 verdict_status Memory = 7
 
 -- ---- why it is answered
 
+-- the command comes to this verdict with this standard input
+abbrev pub Brings : Verdict → Command → (input : List ℕ) → Type 0
+Brings Long command input = max_input < length input
+Brings (Refused offset why) command input = (length input ≤ max_input) × (source : List ℕ) × IsCut input source × IsRefusedBy command source offset why
+Brings Accepted Check input = (length input ≤ max_input) × (source : List ℕ) × (program : Program) × IsCut input source × HasAccepted source program
+Brings (Value run) Serial input = (length input ≤ max_input) × (source : List ℕ) × IsCut input source × RunsAs source run
+Brings _ command input = ⊥
+
 -- the command, or None for words that are no command, comes to this verdict with this standard input
 abbrev pub Means : Option Command → (input : List ℕ) → Verdict → Type 0
 Means None input Usage = Unit {0}
-Means (Some Serial) input Long = max_input < length input
-Means (Some Serial) input (Refused offset Syntax) = (length input ≤ max_input) × (offset ≡ 0) × ((e : Expr ℕ) → IsFirstForm input e → ⊥)
-Means (Some Serial) input (Value run) = (length input ≤ max_input) × (e : Expr ℕ) × IsFirstForm input e × IsRunOf e run
-Means _ input _ = ⊥
+Means None input _ = ⊥
+Means (Some command) input verdict = Brings verdict command input
+
+-- two verdicts that are one answer
+pub record AnswersSame (a b : Verdict) : Type 0 where
+  pub text : verdict_text a ≡ verdict_text b
+  pub status : verdict_status a ≡ verdict_status b
 
 -- The cause of each verdict, by standard input, which a source may not tell, and the source's count of faults before and now:
 --   Usage   the words are no command

@@ -4,9 +4,11 @@
 #![tactic(auto)]
 
 mod command;
+mod cut;
 mod first;
 mod hart;
-mod scan;
+mod program;
+mod refusal;
 mod still;
 #[cfg(test)]
 mod tests;

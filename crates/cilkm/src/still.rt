@@ -1,36 +1,29 @@
 //! The top call: from the words and standard input to the status and standard output.
-ghost use Rattle.std.specs.Prelude.{◌≡◌, ◌≢◌, ℕ, ◌≤◌, ◌⊎◌, Some, IfOk, IfSome, length};
+ghost use Rattle.std.specs.Prelude.{◌≡◌, ◌≢◌, ℕ, ◌≤◌, ◌⊎◌, Some, IfOk, IfSome, length, List};
 ghost use Rattle.std.specs.IoError.{error_kind};
 ghost use Rattle.cm_text.specs.Count.{Rose};
 ghost use Rattle.cm_syntax.specs.declared.expr.Expr.{Expr};
+ghost use Rattle.cm_syntax.specs.declared.stmt.Program.{Program};
+ghost use Rattle.cilkm.specs.Cut.{IsCut};
 ghost use Rattle.cilkm.specs.First.{IsFirstForm};
 ghost use Rattle.cilkm.specs.Run.{Run, IsRunOf};
+ghost use Rattle.cilkm.specs.Source.{HasProgram};
 ghost use Rattle.cilkm.specs.declared.command.Command.TheVariants as commands;
 ghost use Rattle.cilkm.specs.declared.verdict.Verdict.{Verdict};
 ghost use Rattle.cilkm.specs.declared.verdict.Verdict.TheVariants as verdicts;
 ghost use Rattle.cilkm.specs.Verdict.{texts, command_of, max_input, verdict_text, Means, IsCaused, Says, GoesOut, Tells, IsDecided};
 
 use crate::command::{self, Command};
-use crate::first;
-use crate::hart::{self, Stack};
-use crate::verdict::{Refusal, Verdict};
-use cm_asm::Image;
-use cm_gen::make_first;
+use crate::cut::source_of;
+use crate::program::{check_source, run_source};
+use crate::refusal::Stop;
+use crate::verdict::Verdict;
 use cm_text::{Memory, ReadEnd, Sink, Source, read_all, write_all};
 use std::alloc::Global;
 use std::io::{self, ErrorKind};
 
 /// The most bytes of standard input.
 const MAX_INPUT: u32 = 4_194_304;
-
-/// The bytes of the stack account.
-const ACCOUNT: u32 = 262_144;
-
-/// The ticks of a run.
-const TICKS: u32 = 10_000_000;
-
-/// The bytes of a page.
-const PAGE: u32 = 4096;
 
 /// Does what the words after the program's name say: reads the source, writes the sink, and gives the
 /// status with which the program ends.
@@ -44,9 +37,11 @@ pub fn still<I: Source, O: Sink>(alloc: Global, words: &[&str], source: &mut I, 
     ensures exact { IfSome (I.left source.old) (λ input. IsDecided result → (verdict : Verdict)
         × Means (command_of (texts words.now)) input verdict × Says verdict result (O.taken sink.old) (O.taken sink.new)) }
 
-    // A source of the form is compiled, run, and its value printed, unless a stream fails or memory runs out.
+    // A source whose program is of the first form is compiled, run, and its value printed, unless a stream fails or
+    // memory runs out.
     ensures serial { command_of (texts words.now) ≡ Some commands.Serial → IfSome (I.left source.old) (λ input.
-        (expression : Expr ℕ) → IsFirstForm input expression
+        (text : List ℕ) (program : Program) (expression : Expr ℕ) → length input ≤ max_input → IsCut input text
+        → HasProgram text program → IsFirstForm program expression
         → (Rose (I.faults source.old) (I.faults source.new) → ⊥) → (Rose (O.faults sink.old) (O.faults sink.new) → ⊥)
         → ((run : Run) × IsRunOf expression run × Says (verdicts.Value run) result (O.taken sink.old) (O.taken sink.new))
         ⊎ Says verdicts.Memory result (O.taken sink.old) (O.taken sink.new)) }
@@ -79,16 +74,20 @@ fn judge<I: Source>(alloc: Global, words: &[&str], source: &mut I) -> Verdict
 {
     match command::parse(words) {
         None => Verdict::Usage,
-        Some(Command::Serial) => match serial_verdict(alloc, source) {
+        Some(command) => match source_verdict(alloc, command, source) {
             Ok(verdict) => verdict,
             Err(Memory) => Verdict::Memory,
         },
     }
 }
 
-/// What the source of standard input comes to, compiled and run on one hart.
-fn serial_verdict<I: Source>(alloc: Global, source: &mut I) -> Result<Verdict, Memory>
-    ensures cause { IfOk result (IsCaused (Some commands.Serial) (I.left source.old) (I.faults source.old) (I.faults source.new)) }
+/// What a command comes to with standard input.
+fn source_verdict<I: Source>(
+    alloc: Global,
+    command: Command,
+    source: &mut I,
+) -> Result<Verdict, Memory>
+    ensures cause { IfOk result (IsCaused (Some command) (I.left source.old) (I.faults source.old) (I.faults source.new)) }
     ensures kept { I.faults source.old ≤ I.faults source.new }
 {
     let bytes = match read_all(alloc, source, MAX_INPUT) {
@@ -97,22 +96,43 @@ fn serial_verdict<I: Source>(alloc: Global, source: &mut I) -> Result<Verdict, M
         Err(ReadEnd::Long { .. }) => return Ok(Verdict::Long),
         Err(ReadEnd::Memory) => return Err(Memory),
     };
-    let verdict = source_verdict(alloc, bytes.items())?;
+    let verdict = input_verdict(alloc, command, bytes.items())?;
     Ok(verdict)
 }
 
-/// What a source comes to, compiled and run on one hart.
-fn source_verdict(alloc: Global, source: &[u8]) -> Result<Verdict, Memory>
-    requires { length source.now ≤ max_input }
-    ensures { IfOk result (Means (Some commands.Serial) source.now) }
+/// What a command comes to with the bytes of standard input.
+fn input_verdict(alloc: Global, command: Command, input: &[u8]) -> Result<Verdict, Memory>
+    requires { length input.now ≤ max_input }
+    ensures { IfOk result (Means (Some command) input.now) }
 {
-    let Some(expression) = first::read(alloc, source)? else {
-        return Ok(Verdict::Refused(0, Refusal::Syntax));
-    };
-    let words = make_first(alloc, &expression, PAGE)?;
-    let mut stack = Stack::new(alloc)?;
-    let run = hart::run(Image { words }, &mut stack, ACCOUNT, TICKS);
-    Ok(Verdict::Value(run))
+    match command {
+        Command::Check => check_verdict(alloc, input),
+        Command::Serial => serial_verdict(alloc, input),
+    }
+}
+
+/// What `check` comes to: the source of standard input is checked.
+fn check_verdict(alloc: Global, input: &[u8]) -> Result<Verdict, Memory>
+    requires { length input.now ≤ max_input }
+    ensures { IfOk result (Means (Some commands.Check) input.now) }
+{
+    match check_source(alloc, source_of(input)) {
+        Ok(_) => Ok(Verdict::Accepted),
+        Err(Stop::Refused(at, refusal)) => Ok(Verdict::Refused(at, refusal)),
+        Err(Stop::Memory) => Err(Memory),
+    }
+}
+
+/// What `serial` comes to: the source of standard input is compiled and run on one hart.
+fn serial_verdict(alloc: Global, input: &[u8]) -> Result<Verdict, Memory>
+    requires { length input.now ≤ max_input }
+    ensures { IfOk result (Means (Some commands.Serial) input.now) }
+{
+    match run_source(alloc, source_of(input)) {
+        Ok(run) => Ok(Verdict::Value(run)),
+        Err(Stop::Refused(at, refusal)) => Ok(Verdict::Refused(at, refusal)),
+        Err(Stop::Memory) => Err(Memory),
+    }
 }
 
 /// Writes the verdict's line, or that of want of memory, and gives the status.

@@ -1,7 +1,11 @@
-//! The program over streams in memory: sources with their answers, and streams that fail.
-use crate::first::one_tree;
+//! The program over streams in memory: its words, limits met and passed, and streams that fail. The tables of sources
+//! stand in the modules below.
+mod lending;
+mod name;
+mod reader;
+mod source;
+
 use crate::still::still;
-use cm_syntax::Name;
 use cm_text::{Bytes, List, MemSink, MemSource, Memory};
 use std::alloc::{AllocError, Global};
 use std::test::Fail;
@@ -43,83 +47,128 @@ fn answer(
     Ok((status, list_of(alloc, sink.taken())?))
 }
 
-/// A program whose expression is `1` and so many times `+1`.
-fn with_signs(alloc: Global, signs: usize) -> Result<String, AllocError> {
-    let mut source = String::from_str(alloc, "int main() { return 1")?;
-    for _ in 0..signs {
-        source.push_str("+1")?;
+/// The status that belongs to a text.
+fn status_of(text: &str) -> u8 {
+    match text.as_bytes() {
+        [b'a' | b'v', ..] => 0,
+        [b'r', ..] => 1,
+        [b'u', ..] => 2,
+        _ => 8,
     }
-    source.push_str("; }")?;
-    Ok(source)
 }
 
-/// The program `int main(){return 0;}` of 21 bytes, and so many spaces behind it.
-fn with_spaces(alloc: Global, spaces: usize) -> Result<Bytes, Memory> {
-    let mut source = list_of(alloc, b"int main(){return 0;}")?;
-    for _ in 0..spaces {
-        source.push(b' ')?;
+/// Whether a command answers an input with this text and its status.
+fn is_answered_by(alloc: Global, command: &str, input: &[u8], text: &str) -> Result<bool, Memory> {
+    let told = answer(alloc, &[command], input, &CALM)?;
+    Ok(told.0 == status_of(text) && told.1.items() == text.as_bytes())
+}
+
+/// Whether `serial` answers an input with this text and its status.
+fn is_answered(alloc: Global, input: &[u8], text: &str) -> Result<bool, Memory> {
+    is_answered_by(alloc, "serial", input, text)
+}
+
+/// A text, then a piece so many times, and then a text.
+fn repeated(
+    alloc: Global,
+    front: &str,
+    piece: &str,
+    count: usize,
+    back: &str,
+) -> Result<String, AllocError> {
+    let mut text = String::from_str(alloc, front)?;
+    for _ in 0..count {
+        text.push_str(piece)?;
     }
+    text.push_str(back)?;
+    Ok(text)
+}
+
+/// So many functions with numbers in their names, and then `main`.
+fn with_functions(alloc: Global, functions: u32) -> Result<String, AllocError> {
+    let mut source = String::new(alloc);
+    for number in 0..functions {
+        let function = format!(in alloc; "int f{number}() {{ return 0; }}\n")?;
+        source.push_str(function.as_str())?;
+    }
+    source.push_str("int main() { return 0; }")?;
     Ok(source)
 }
 
 #[test]
-fn sources(rt: HostRuntime) -> Result<(), Fail> {
-    let rows = [
-        ("int main() { return 14; }", 0, "value 14\n"),
-        ("int main() { return 2 + 3 * 4; }", 0, "value 14\n"),
-        (
-            "int main() { return 2147483647 + 1; }",
-            0,
-            "value -2147483648\n",
-        ),
-        ("int main() { return 2 - 3 * 4; }", 0, "value -10\n"),
-        ("int main(){return 7-2-1;}", 0, "value 4\n"),
-        ("int main(){return 2*3*4-5*6*7;}", 0, "value -186\n"),
-        (
-            "int main(){return 65536*65536+2049*4097-2048;}",
-            0,
-            "value 8392705\n",
-        ),
-        ("\tint\r\nmain (\n) {return 0 ;}\n", 0, "value 0\n"),
-        ("int main() { return 2147483647; }", 0, "value 2147483647\n"),
-        ("int main() { return 2147483648; }", 1, "refused 0 syntax\n"),
-        ("int main() { return 012; }", 1, "refused 0 syntax\n"),
-        ("int main() { return (1); }", 1, "refused 0 syntax\n"),
-        ("int main() { return -1; }", 1, "refused 0 syntax\n"),
-        ("int main() { return14; }", 1, "refused 0 syntax\n"),
-        ("int main() { return 14a; }", 1, "refused 0 syntax\n"),
-        ("intmain() { return 14; }", 1, "refused 0 syntax\n"),
-        ("int main() { return 1 +; }", 1, "refused 0 syntax\n"),
-        ("int main() { return 1; } x", 1, "refused 0 syntax\n"),
-        ("int main() { return 1", 1, "refused 0 syntax\n"),
-        ("", 1, "refused 0 syntax\n"),
+fn words(rt: HostRuntime) -> Result<(), Fail> {
+    let wrong: [&[&str]; 5] = [
+        &[],
+        &["chek"],
+        &["check", "page=256"],
+        &["serial", "ticks=1"],
+        &[""],
     ];
-    for (source, status, text) in rows {
-        let told = answer(rt.alloc(), &["serial"], source.as_bytes(), &CALM)?;
-        assert_eq!(rt; told.0, status, "{source}");
-        assert_eq!(rt; told.1.items(), text.as_bytes(), "{source}");
-    }
-    let wrong: [&[&str]; 4] = [&[], &["check"], &["serial", "ticks=1"], &[""]];
     for words in wrong {
         let told = answer(rt.alloc(), words, b"int main() { return 14; }", &CALM)?;
         assert_eq!(rt; told.0, 2);
         assert_eq!(rt; told.1.items(), b"usage\n".as_slice());
     }
-    one_tree();
     Ok(())
 }
 
 #[test]
 fn limits(rt: HostRuntime) -> Result<(), Fail> {
     let alloc = rt.alloc();
-    let serial = ["serial"];
-    let told = answer(alloc, &serial, with_signs(alloc, 64)?.as_bytes(), &CALM)?;
-    assert_eq!(rt; told.1.items(), b"value 65\n".as_slice());
-    let told = answer(alloc, &serial, with_signs(alloc, 65)?.as_bytes(), &CALM)?;
-    assert_eq!(rt; told.0, 1);
-    for (spaces, status) in [(65515, 0), (65516, 1), (4_194_283, 1), (4_194_284, 8)] {
-        let told = answer(alloc, &serial, with_spaces(alloc, spaces)?.items(), &CALM)?;
-        assert_eq!(rt; told.0, status, "{spaces} spaces");
+    // operators between the same brackets and in all, bytes of a source, and bytes of an input
+    let rows = [
+        ("int main() { return 1", "+1", 64, "; }", "value 65\n"),
+        (
+            "int main() { return 1",
+            "+1",
+            65,
+            "; }",
+            "refused 149 size\n",
+        ),
+        ("int main() { return 1", "+(1+1)", 32, "; }", "value 65\n"),
+        (
+            "int main() { return 1",
+            "+(1+1)",
+            33,
+            "; }",
+            "refused 0 later\n",
+        ),
+        ("int main(){return 0;}", " ", 65515, "", "value 0\n"),
+        (
+            "int main(){return 0;}",
+            " ",
+            65516,
+            "",
+            "refused 65536 size\n",
+        ),
+        (
+            "int main(){return 0;}",
+            " ",
+            4_194_283,
+            "",
+            "refused 65536 size\n",
+        ),
+        ("int main(){return 0;}", " ", 4_194_284, "", "long\n"),
+        (
+            "int main(){return 0;}\n%%\n",
+            "%",
+            4_194_279,
+            "",
+            "value 0\n",
+        ),
+        ("int main(){return 0;}\n%%\n", "%", 4_194_280, "", "long\n"),
+    ];
+    for (front, piece, count, back, text) in rows {
+        let source = repeated(alloc, front, piece, count, back)?;
+        assert!(rt;
+            is_answered(alloc, source.as_bytes(), text)?,
+            "{front} {piece} {count}"
+        );
+    }
+    // 256 functions, and 257
+    for (functions, text) in [(255, "refused 0 later\n"), (256, "refused 6294 count\n")] {
+        let source = with_functions(alloc, functions)?;
+        assert!(rt; is_answered(alloc, source.as_bytes(), text)?, "{functions}");
     }
     Ok(())
 }
@@ -160,13 +209,5 @@ fn failing_streams(rt: HostRuntime) -> Result<(), Fail> {
     let told = answer(rt.alloc(), &["serial"], source, &broken)?;
     assert_eq!(rt; told.0, 6);
     assert_eq!(rt; told.1.items(), b"valu".as_slice());
-    Ok(())
-}
-
-/// A name is made where there is memory. No command makes one yet.
-#[test]
-fn names(rt: HostRuntime) -> Result<(), Fail> {
-    let name = Name::of(rt.alloc(), b"row_1")?;
-    assert_eq!(rt; name.bytes(), b"row_1".as_slice());
     Ok(())
 }

@@ -1,4 +1,4 @@
-use Rattle.std.proofs.Common.{◌≡◌, ℕ, ◌+◌, ◌<◌, ◌^◌}
+use Rattle.std.proofs.Common.{ℕ, ◌+◌, ◌<◌, ◌^◌}
 use Rattle.std.specs.Prelude.{ℤ}
 use Rattle.cm_gen.specs.Run.{Ends}
 use Rattle.cm_hart.specs.Step.{hart_machine}

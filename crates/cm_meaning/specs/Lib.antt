@@ -1,0 +1,9 @@
+pub mod End
+pub mod Elision
+pub mod Piece
+pub mod Meaning
+pub mod Measure
+pub mod Weight
+pub mod Activation
+pub mod Law
+pub mod Row

@@ -1,0 +1,90 @@
+-- What a program means: the end of its serial elision, and the ends that fork and join allow.
+use Rattle.std.specs.Prelude.{◌≡◌, ℕ, ◌*◌, ℤ, List}
+use Rattle.cm_syntax.specs.declared.stmt.Program.{Program}
+use Rattle.cm_syntax.specs.Stack.{Stack, Destination, StackSum, settle, is_held, empty_stack}
+use Rattle.cm_syntax.specs.Rest.{Control}
+use Rattle.cm_syntax.specs.Step.{Move, step, start_of, depth, inside}
+use Rattle.cm_meaning.specs.End.{End}
+use Rattle.cm_meaning.specs.Elision as elision
+use Rattle.cm_meaning.specs.Piece as pieces
+
+-- the ticks of a run, the pages of its stack account, and the bytes of a page
+pub record Limits : Type 0 where
+  pub ticks : ℕ
+  pub stack : ℕ
+  pub page : ℕ
+
+-- ---- the serial elision
+
+module _ (program : Program) (page : ℕ) (input : List ℤ) where
+  -- one step of the elision
+  abbrev pub serial_step : Control → Stack → Move
+  serial_step = elision.serial_step Control Stack Destination (step program page input) inside
+
+  -- from one state to another, with output and ticks
+  abbrev pub Comes : Control → Stack → (output : List ℤ) → (count : ℕ) → Control → Stack → Type 0
+  Comes = elision.Comes Control Stack Destination (step program page input) inside
+
+  -- the end from a state with so many ticks, and the words held there
+  abbrev pub EndsAs : Control → Stack → (limit : ℕ) → End → Stack → Type 0
+  EndsAs = elision.EndsAs Control Stack Destination (step program page input) inside
+
+  -- to a state that no rule has
+  abbrev pub GetsStuck : Control → Stack → (limit : ℕ) → Type 0
+  GetsStuck = elision.GetsStuck Control Stack Destination (step program page input) inside
+
+-- the first state of a program: the call of main, and nothing is held
+abbrev pub first_control : Program → Limits → Control
+first_control program limits = start_of program.main (limits.stack * limits.page)
+
+-- the end of the serial elision of a program
+abbrev pub SerialEnd : Program → (input : List ℤ) → Limits → End → Type 0
+SerialEnd program input limits e =
+    (w : Stack) × EndsAs program limits.page input (first_control program limits) empty_stack limits.ticks e w
+
+-- ---- fork and join
+
+abbrev pub Ask : Type 0
+Ask = pieces.Ask Control Stack Destination
+
+abbrev pub Note : Type 0
+Note = pieces.Note Control Stack Destination
+
+abbrev pub Piece : Type 0
+Piece = pieces.Piece Control Stack Destination
+
+abbrev pub begun : Ask → Piece
+begun = pieces.begun Control Stack Destination
+
+-- of main
+abbrev pub main_ask : Program → Limits → Ask
+main_ask program limits = record { start = limits.ticks; call = first_control program limits; lent = empty_stack }
+
+module _ (program : Program) (page : ℕ) (input : List ℤ) where
+  -- from a piece the rules lead to this end and these words
+  abbrev pub Fork : Piece → End → Stack → Type 0
+  Fork = pieces.Fork Control Stack Destination StackSum settle depth (step program page input)
+
+  -- one rule
+  abbrev pub Goes : Piece → Piece → Type 0
+  Goes = pieces.Goes Control Stack Destination StackSum settle depth (step program page input)
+
+  -- the rules lead from the first piece to this one
+  abbrev pub Reached : (first : Piece) → Piece → Type 0
+  Reached = pieces.Reached Control Stack Destination StackSum settle depth (step program page input)
+
+-- the rules allow this end to a program
+abbrev pub ForkEnd : Program → (input : List ℤ) → Limits → End → Type 0
+ForkEnd program input limits e = (w : Stack) × Fork program limits.page input (begun (main_ask program limits)) e w
+
+-- two stacks hold the same words and references, whatever is in them
+pub record HoldSameCells (a b : Stack) : Type 0 where
+  pub words : (d s i : ℕ) → is_held (a.words d s i) ≡ is_held (b.words d s i)
+  pub references : (d s : ℕ) → is_held (a.references d s) ≡ is_held (b.references d s)
+
+-- An end with words answers an ask of a program's run: the ask is one of a reached child, the rules allow it the end
+-- and these words, and the words that come back are those that were lent, whatever is in them.
+pub record Answers (program : Program) (input : List ℤ) (limits : Limits) (ask : Ask) (e : End) (w : Stack) : Type 0 where
+  pub reached : Reached program limits.page input (begun (main_ask program limits)) (begun ask)
+  pub allowed : Fork program limits.page input (begun ask) e w
+  pub cells : HoldSameCells ask.lent w

@@ -1,0 +1,20 @@
+//! The meaning of programs: the serial elision with its end and its measures, and fork and join with the ends that
+//! they allow.
+//!
+//! This crate holds definitions and their laws: it runs nothing.
+#![tactic(auto)]
+
+mod law;
+mod row;
+
+pub use law::{
+    accounts_of_calls, forks_mean_elisions, more_ticks_same_end, one_serial_end, runs_beside_words,
+    runs_inside_callers, spawns_are_calls, spawns_part_stacks, states_stay_settled,
+    steps_beside_words, steps_inside_callers, steps_lower_weight,
+};
+pub use row::{
+    calls_to_the_account, cilk_calls_take_pages, early_stops, first_child_decides,
+    joins_count_once, left_operand_first, loop_ticks, measures_of_runs, one_trap_of_each_kind,
+    operators_at_corners, prints_take_ticks, spawns_as_calls, splits_at_ends, sums_and_products,
+    traps_beside_loops, unset_words_unread, updates_read_last,
+};
