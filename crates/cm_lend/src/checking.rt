@@ -35,7 +35,8 @@ fn breach_of(alloc: Global, program: &Program) -> Result<Option<Breach>, Memory>
 
 /// Whether a program obeys the lending rule: on no path through a function's text is a variable mentioned where a
 /// child that it was lent to may still run, and no call passes a variable as a slice twice. The program has to be
-/// sound. On a refusal it is dropped.
+/// sound. On a refusal it is dropped. The time is at most linear in the text times the loans that no path's `sync` or
+/// `return` has ended yet.
 ///
 /// # Errors
 /// `Lent` and `Same` as the rule has them, exactly there, at the least offset that is refused, and at one offset `Lent`

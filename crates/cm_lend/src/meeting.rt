@@ -126,24 +126,28 @@ fn mark_all(marks: &mut [bool], loans: &[Loan])
     }
 }
 
-/// How many marks the variables of the loans want.
-fn slot_count(loans: &[Loan]) -> usize {
+/// How many marks the variables of the loans and the mentions want. It bears on the time alone: a variable beyond the
+/// marks counts as marked.
+fn slot_count(loans: &[Loan], mentions: &[Mention]) -> usize {
     let mut most = 0;
     for loan in loans {
         most = loan.variable.max(most);
+    }
+    for mention in mentions {
+        most = mention.variable.max(most);
     }
     most as usize + 1
 }
 
 /// The marks of the loans' variables. None are made where there are few loans or few mentions: then the loans are
 /// looked through for each mention.
-fn marks_of(alloc: Global, loans: &[Loan], mentions: usize) -> Result<Vec<bool>, Memory>
+fn marks_of(alloc: Global, loans: &[Loan], mentions: &[Mention]) -> Result<Vec<bool>, Memory>
     ensures { IfOk result (λ marks. AreMarked loans.now marks.items) }
 {
-    if loans.len() <= FEW || mentions <= FEW {
+    if loans.len() <= FEW || mentions.len() <= FEW {
         return Ok(Vec::new(alloc));
     }
-    let mut marks = vec![in alloc; false; slot_count(loans)]?;
+    let mut marks = vec![in alloc; false; slot_count(loans, mentions)]?;
     mark_all(&mut marks, loans);
     Ok(marks)
 }
@@ -158,7 +162,7 @@ pub(crate) fn meet(
 ) -> Result<Option<Breach>, Memory>
     ensures { IfOk result (IsBetter (Meets leaving.now entering.now) before) }
 {
-    let marks = marks_of(alloc, leaving, entering.len())?;
+    let marks = marks_of(alloc, leaving, entering)?;
     let best = meet_all(before, leaving, marks.as_slice(), entering);
     Ok(best)
 }
