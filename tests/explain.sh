@@ -73,7 +73,8 @@ refused frame 1:5 <<'END'
 int main() { int a[16384], b[16384]; return 0; }
 END
 refused count 1:5 <<'END'
-int f(int a, int b, int c, int d, int e, int g, int h, int i, int j) { return 0; } int main() { return 0; }
+int f(int a, int b, int c, int d, int e, int g, int h, int i, int j) { return 0; }
+int main() { return 0; }
 END
 refused lent 5:10 4:7 <<'END'
 cilk int f() { return 1; }
