@@ -15,3 +15,5 @@ pub mod AboveLaw
 pub mod ReturnLaw
 pub mod ForkLaw
 pub mod ForkMeaning
+pub mod OutputLaw
+pub mod LinesLaw

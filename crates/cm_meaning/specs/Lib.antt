@@ -7,3 +7,6 @@ pub mod Weight
 pub mod Activation
 pub mod Law
 pub mod Row
+pub mod Output
+pub mod Printed
+pub mod Ended

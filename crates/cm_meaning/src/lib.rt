@@ -1,17 +1,23 @@
 //! The meaning of programs: the serial elision with its end and its measures, and fork and join with the ends that
-//! they allow.
+//! they allow, as definitions with their laws. And what a run gives: its output, how it ended, and the text of that.
 //!
-//! This crate holds definitions and their laws: it runs nothing.
+//! This crate runs nothing.
 #![tactic(auto)]
 
+mod ended;
+mod ended_text;
 mod law;
+mod output;
 mod row;
 
+pub use ended::{Ended, Limits, Trap};
+pub use ended_text::text;
 pub use law::{
     accounts_of_calls, forks_mean_elisions, more_ticks_same_end, one_serial_end, runs_beside_words,
     runs_inside_callers, spawns_are_calls, spawns_part_stacks, states_stay_settled,
     steps_beside_words, steps_inside_callers, steps_lower_weight,
 };
+pub use output::Output;
 pub use row::{
     calls_to_the_account, cilk_calls_take_pages, early_stops, first_child_decides,
     joins_count_once, left_operand_first, loop_ticks, measures_of_runs, one_trap_of_each_kind,
