@@ -2,6 +2,7 @@
 //! stand in the modules below.
 mod lending;
 mod name;
+mod output;
 mod reader;
 mod source;
 
