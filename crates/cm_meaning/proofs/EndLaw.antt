@@ -68,6 +68,22 @@ module _ (Control Stack Destination : Type 0) (step : Control → Stack → Step
   moved : {c t l : Control} {h g k : Stack} {o : List ℤ} {n : ℕ} → c ≡ t → h ≡ g → Runs c h o n l k → Runs t g o n l k
   moved {c = c} {t = t} {l = l} {h = h} {g = g} {k = k} {o = o} {n = n} e f r = subst (λ z. Runs z g o n l k) e (subst (λ z. Runs c z o n l k) f r)
 
+  -- what is left of a run behind its first step
+  abbrev pub Onward : Move → Control → Stack → Type 0
+  Onward (silent c h) t g = (o : List ℤ) × (n : ℕ) × Runs c h o n t g
+  Onward (ticks c h) t g = (o : List ℤ) × (n : ℕ) × Runs c h o n t g
+  Onward (prints v c h) t g = (o : List ℤ) × (n : ℕ) × Runs c h o n t g
+  Onward _ t g = ⊥
+
+  onward_of : (m x y : Move) (t : Control) (g : Stack) → m ≡ x → m ≡ y → Onward y t g → Onward x t g
+  onward_of m x y t g e f = subst (λ z. Onward z t g) (sym f ∙ e)
+
+  pub onward : {c t : Control} {h g : Stack} {o : List ℤ} {n : ℕ} (x : Move) → goes c h ≡ x → Runs c h o n t g → (t ≡ c) ⊎ Onward x t g
+  onward x e here = inl refl
+  onward {t = t} {g = g} {o = o} {n = n} x e (quiet f r) = inr (onward_of _ x _ t g e f (o, n, r))
+  onward {t = t} {g = g} x e (tick f r) = inr (onward_of _ x _ t g e f (_, _, r))
+  onward {t = t} {g = g} x e (show f r) = inr (onward_of _ x _ t g e f (_, _, r))
+
   pub prefix : {c t l : Control} {h g k : Stack} {o p : List ℤ} {n m : ℕ} → Runs c h o n t g → Halting (goes t g) → Runs c h p m l k → Prefix t g o n l k p m
   prefix {o = o} {n = n} r z here = record { more = o; count = n; runs = r; outs = refl; sums = omega arith }
   prefix here z (quiet e q) = absurd (halting_at _ _ _ e z)

@@ -17,3 +17,14 @@ pub mod ForkLaw
 pub mod ForkMeaning
 pub mod OutputLaw
 pub mod LinesLaw
+pub mod FormedLaw
+pub mod TypedExpressionLaw
+pub mod TypedStatementLaw
+pub mod TypingLaw
+pub mod WeakeningLaw
+pub mod GrowthLaw
+pub mod TypedFramesLaw
+pub mod ArgumentLaw
+pub mod ItemLaw
+pub mod SafetyLaw
+pub mod GreatestLaw

@@ -7,6 +7,8 @@ pub mod Weight
 pub mod Activation
 pub mod Law
 pub mod Row
+pub mod Typing
+pub mod TypedState
 pub mod Output
 pub mod Printed
 pub mod Ended

@@ -1,7 +1,8 @@
 //! The laws of the definitions. The functions do nothing: their contracts are the laws.
 
-ghost use Rattle.std.specs.Prelude.{◌≡◌, ◌≤◌, ◌⊎◌, [], ℕ, List, ℤ, Option};
+ghost use Rattle.std.specs.Prelude.{◌≡◌, ◌≤◌, ◌⊎◌, [], ℕ, List, ℤ, Option, Bool, true};
 ghost use Rattle.cm_syntax.specs.declared.stmt.Program.{Program};
+ghost use Rattle.cm_syntax.specs.Fault.{IsSoundProgram};
 ghost use Rattle.cm_syntax.specs.Label.{ends};
 ghost use Rattle.cm_syntax.specs.Trap.{Trap};
 ghost use Rattle.cm_syntax.specs.Stack.{Stack, Destination, Argument, StackSum, IsUnder, empty_stack, settle};
@@ -11,6 +12,8 @@ ghost use Rattle.cm_meaning.specs.End.{End, Done, Trapped, Spent};
 ghost use Rattle.cm_meaning.specs.Activation.{base, IsSettled};
 ghost use Rattle.cm_meaning.specs.Meaning.{Ask, Fork, ForkEnd, SerialEnd, begun, Limits, serial_step, Comes, EndsAs, GetsStuck, first_control};
 ghost use Rattle.cm_meaning.specs.Measure.{account_of};
+ghost use Rattle.cm_meaning.specs.Typing.{TypedProgram};
+ghost use Rattle.cm_meaning.specs.TypedState.{TypedState, KeepsTyped};
 ghost use Rattle.cm_meaning.specs.Law.{HoldsDestination, IsBeside, IsInside, arrival, LowersWeight, PartsStack, KeepsSettled};
 
 /// A step that takes no tick leads to less weight.
@@ -110,6 +113,28 @@ pub fn spawns_are_calls()
         → Comes program page input
         (inside (control continuation.calls continuation.account (entering f arguments) []) x continuation) h out n
         continuation (settle x v g) }
+{}
+
+/// A sound program is well typed.
+pub fn sound_programs_are_typed()
+    ensures { (program : Program) → IsSoundProgram program → TypedProgram program }
+{}
+
+/// The elision of a typed program stays typed, and so it is never stuck.
+pub fn typed_programs_go_on()
+    ensures first { (program : Program) (account : ℕ) → TypedProgram program
+        → TypedState program true (start_of program.main account) empty_stack }
+    ensures step { (program : Program) (page : ℕ) (input : List ℤ) (gives : Bool) (c : Control) (h : Stack)
+        → TypedProgram program → TypedState program gives c h
+        → KeepsTyped program gives (serial_step program page input c h) }
+{}
+
+/// The elision of a sound program is never stuck: it has an end, whatever its input and limits.
+pub fn sound_programs_end()
+    ensures end { (program : Program) (input : List ℤ) (limits : Limits) → IsSoundProgram program
+        → (e : End) × SerialEnd program input limits e }
+    ensures never_stuck { (program : Program) (input : List ℤ) (limits : Limits) (limit : ℕ) → IsSoundProgram program
+        → GetsStuck program limits.page input (first_control program limits) empty_stack limit → ⊥ }
 {}
 
 /// Fork and join mean the elision: each end that the rules allow to a piece that begins with a call is the end of the

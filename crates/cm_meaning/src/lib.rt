@@ -14,8 +14,9 @@ pub use ended::{Ended, Limits, Trap};
 pub use ended_text::text;
 pub use law::{
     accounts_of_calls, forks_mean_elisions, more_ticks_same_end, one_serial_end, runs_beside_words,
-    runs_inside_callers, spawns_are_calls, spawns_part_stacks, states_stay_settled,
-    steps_beside_words, steps_inside_callers, steps_lower_weight,
+    runs_inside_callers, sound_programs_are_typed, sound_programs_end, spawns_are_calls,
+    spawns_part_stacks, states_stay_settled, steps_beside_words, steps_inside_callers,
+    steps_lower_weight, typed_programs_go_on,
 };
 pub use output::Output;
 pub use row::{
