@@ -10,6 +10,7 @@ use Rattle.cm_syntax.specs.Rest.{Control}
 use Rattle.cm_syntax.specs.Step.{Move, step, inside}
 use Rattle.cm_meaning.specs.Meaning.{Limits, Comes, serial_step, first_control}
 use Rattle.cm_meaning.specs.Measure.{IsGreatest}
+use Rattle.cm_meaning.specs.Progress as progress
 use Rattle.cm_meaning.proofs.EndLaw.{Onward, onward}
 
 -- the greater of two numbers is one of them
@@ -30,21 +31,11 @@ module _ (program : Program) (input : List ℤ) (limits : Limits) (measure : Lis
   abbrev Later : Move → Control → Stack → Type 0
   Later = Onward Control Stack Destination (step program limits.page input) inside
 
-  -- the run reaches a state
-  pub record Reaches (t : Control) (g : Stack) : Type 0 where
-    pub out : List ℤ
-    pub used : ℕ
-    pub runs : Runs (first_control program limits) empty_stack out used t g
-    pub within : used ≤ limits.ticks
+  abbrev Reaches : Control → Stack → Type 0
+  Reaches = progress.Reaches program input limits
 
-  -- Each state that the run reaches has no greater measure than n, or stands behind this one; and some has it.
-  pub record IsSeen (c : Control) (h : Stack) (n : ℕ) : Type 0 where
-    pub before : (t : Control) (g : Stack) → Reaches t g → (measure t.calls ≤ n) ⊎ ((o : List ℤ) × (u : ℕ) × Runs c h o u t g)
-    pub top : measure c.calls ≤ n
-    pub state : Control
-    pub held : Stack
-    pub met : Reaches state held
-    pub greatest : measure state.calls ≡ n
+  abbrev IsSeen : Control → Stack → ℕ → Type 0
+  IsSeen = progress.IsSeen program input limits measure
 
   -- the first state
   pub seen_first : IsSeen (first_control program limits) empty_stack (measure (first_control program limits).calls)

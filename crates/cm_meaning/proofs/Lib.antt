@@ -28,3 +28,12 @@ pub mod ArgumentLaw
 pub mod ItemLaw
 pub mod SafetyLaw
 pub mod GreatestLaw
+pub mod FramesLaw
+pub mod KeptLaw
+pub mod EvaluatorLaw
+pub mod OperatorLaw
+pub mod ExpressionLaw
+pub mod StatementStepLaw
+pub mod WriteStepLaw
+pub mod CallLaw
+pub mod ProgressLaw

@@ -9,6 +9,11 @@ pub mod Law
 pub mod Row
 pub mod Typing
 pub mod TypedState
+pub mod Layout
+pub mod Evaluator
+pub mod Doing
+pub mod Range
+pub mod Progress
 pub mod Output
 pub mod Printed
 pub mod Ended

@@ -1,4 +1,4 @@
-//! What a run may take, and how it ended.
+//! What a run may take, how it ended, and what it took of the stack.
 
 use crate::output::Output;
 
@@ -49,4 +49,13 @@ pub enum Ended {
     },
     /// It would take more ticks than there are; then nothing is printed.
     Spent,
+}
+
+/// The two numbers that bound the pages of a parallel run.
+#[derive(Clone, Copy, Debug, PartialEq, Eq)]
+pub struct Measure {
+    /// The pages of the greatest sum of frame bytes of live calls.
+    pub pages: u32,
+    /// The greatest number of live calls of functions marked `cilk`.
+    pub depth: u32,
 }

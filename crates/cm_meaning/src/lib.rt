@@ -1,16 +1,27 @@
 //! The meaning of programs: the serial elision with its end and its measures, and fork and join with the ends that
-//! they allow, as definitions with their laws. And what a run gives: its output, how it ended, and the text of that.
+//! they allow, as definitions with their laws. The evaluator finds the end of the elision by the definitions' single
+//! steps. And what a run gives: its output, how it ended, and the text of that.
 //!
-//! This crate runs nothing.
+//! The code of a program is not looked at here, and no machine.
 #![tactic(auto)]
 
+mod call;
+mod elision;
 mod ended;
 mod ended_text;
+mod evaluator;
+mod expression;
+mod frames;
 mod law;
+mod operator;
 mod output;
+mod reference;
 mod row;
+mod statement;
+mod work;
 
-pub use ended::{Ended, Limits, Trap};
+pub use elision::{elide, measure};
+pub use ended::{Ended, Limits, Measure, Trap};
 pub use ended_text::text;
 pub use law::{
     accounts_of_calls, forks_mean_elisions, more_ticks_same_end, one_serial_end, runs_beside_words,

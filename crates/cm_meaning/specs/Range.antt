@@ -1,0 +1,19 @@
+-- The ranges of what a run may take and of its input.
+use Rattle.std.specs.Prelude.{◌≡◌, ℕ, ◌≤◌, ◌⊎◌}
+use Rattle.cm_meaning.specs.Meaning.{Limits}
+
+-- the most numbers of an input
+abbrev pub max_input_numbers : ℕ
+max_input_numbers = 65536
+
+-- the bytes that a page may have
+abbrev pub IsPage : ℕ → Type 0
+IsPage page = (page ≡ 256) ⊎ (page ≡ 1024) ⊎ (page ≡ 4096)
+
+-- limits as the program takes them
+pub record HasRanges (limits : Limits) : Type 0 where
+  pub some_ticks : 1 ≤ limits.ticks
+  pub most_ticks : limits.ticks ≤ 100000000
+  pub some_stack : 16 ≤ limits.stack
+  pub most_stack : limits.stack ≤ 256
+  pub page : IsPage limits.page
