@@ -16,7 +16,7 @@ use Rattle.cm_lend.specs.declared.refusal.LendRefusal.{LendRefusal}
 use Rattle.cm_lend.specs.declared.refusal.LendRefusal.TheVariants as lending
 use Rattle.cm_lend.proofs.AnswerLaw.{one_answer as one_lending_answer}
 use Rattle.cilkm.specs.declared.command.Command.{Command}
-use Rattle.cilkm.specs.declared.command.Command.TheVariants.{Check, Serial}
+use Rattle.cilkm.specs.declared.command.Command.TheVariants.{Check, Serial, Mean}
 use Rattle.cilkm.specs.declared.refusal.Refusal.{Refusal}
 use Rattle.cilkm.specs.declared.refusal.Refusal.TheVariants as refusal
 use Rattle.cilkm.specs.declared.refusal.Stop.{Stop}
@@ -137,6 +137,7 @@ by_one_cause source i j a b x y = one_cause source i j a b (cause_of source i a 
 pub IsRefused-one : (command : Command) (source : List ℕ) (i j : ℕ) (a b : Refusal) → IsRefusedBy command source i a → IsRefusedBy command source j b → (i ≡ j) × (a ≡ b)
 IsRefused-one Serial source i j a b x y = by_one_cause source i j a b x y
 IsRefused-one Check source i j a b x y = by_one_cause source i j a b (by_serial source i a x) (by_serial source j b y)
+IsRefused-one (Mean limits) source i j a b x y = by_one_cause source i j a b (by_serial source i a x) (by_serial source j b y)
 
 -- why `check` stops, `serial` stops as well
 pub stops_serial : (source : List ℕ) (why : Stop) → IsStopOf Check source why → IsStopOf Serial source why

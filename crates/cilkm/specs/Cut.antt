@@ -1,6 +1,10 @@
 -- Which bytes of standard input are the source.
 use Rattle.std.specs.Prelude.{◌≡◌, ℕ, ◌≤◌, ◌⊎◌, List, [], ◌++◌, length, codes}
 
+-- the most bytes of standard input
+abbrev pub max_input : ℕ
+max_input = 4194304
+
 -- The bytes are whole lines: there are none, or the last one is a line feed.
 abbrev pub AreLines : List ℕ → Type 0
 AreLines bytes = (bytes ≡ []) ⊎ ((before : List ℕ) × (bytes ≡ before ++ codes "\n"))

@@ -2,5 +2,8 @@ pub mod Cut
 pub mod First
 pub mod Stack
 pub mod Run
+pub mod Setting
+pub mod Asked
+pub mod Pieces
 pub mod Source
 pub mod Verdict

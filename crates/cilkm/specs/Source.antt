@@ -16,7 +16,7 @@ use Rattle.cm_lend.specs.declared.refusal.LendRefusal.TheVariants as lending
 use Rattle.cilkm.specs.First.{IsFirstForm}
 use Rattle.cilkm.specs.Run.{Run, IsRunOf}
 use Rattle.cilkm.specs.declared.command.Command.{Command}
-use Rattle.cilkm.specs.declared.command.Command.TheVariants.{Check, Serial}
+use Rattle.cilkm.specs.declared.command.Command.TheVariants.{Check, Serial, Mean}
 use Rattle.cilkm.specs.declared.refusal.Refusal.{Refusal}
 use Rattle.cilkm.specs.declared.refusal.Refusal.TheVariants as refusal
 use Rattle.cilkm.specs.declared.refusal.Stop.{Stop}
@@ -73,6 +73,7 @@ abbrev pub IsRefusedBy : Command → (source : List ℕ) → (at : ℕ) → Refu
 IsRefusedBy Check source at why = IsRefused source at why
 IsRefusedBy Serial source at refusal.Later = (at ≡ 0) × IsLater source
 IsRefusedBy Serial source at why = IsRefused source at why
+IsRefusedBy (Mean limits) source at why = IsRefused source at why
 
 -- the source has a program of the first form, and this is a run of its expression
 abbrev pub RunsAs : (source : List ℕ) → Run → Type 0

@@ -1,37 +1,26 @@
 -- What the program answers, and why.
-use Rattle.std.specs.Prelude.{◌≡◌, ℕ, ◌<◌, ◌≤◌, ◌⊎◌, if◌then◌else◌, List, [], ◌∷◌, ◌++◌, length, codes, map, Option, None, Some, IsSome, IfSome}
-use Rattle.std.specs.Str.{bytes_eq}
-use Rattle.std.specs.Borrow.{Bor}
+use Rattle.std.specs.Prelude.{◌≡◌, ℕ, ◌<◌, ◌≤◌, ◌⊎◌, ℤ, List, ◌++◌, length, codes, Option, None, Some, IsSome, IfSome}
 use Rattle.std.specs.Fmt.{decimal, signed_decimal}
 use Rattle.std.specs.Io.KnownBytes.{Appends}
 use Rattle.cm_text.specs.Count.{Rose}
 use Rattle.cm_text.specs.Transfer.{TookFront}
 use Rattle.cm_syntax.specs.declared.stmt.Program.{Program}
-use Rattle.cilkm.specs.Cut.{IsCut}
+use Rattle.cm_meaning.specs.Ended.{ended_text, end_of, limits_of}
+use Rattle.cm_meaning.specs.Meaning.{SerialEnd}
+use Rattle.cm_meaning.specs.declared.ended.Ended.{Ended as End}
+use Rattle.cm_meaning.specs.declared.ended.Limits.{Limits}
+use Rattle.cm_meaning.specs.declared.ended.Ended.TheVariants as ended
+use Rattle.cilkm.specs.Cut.{max_input, IsCut}
+use Rattle.cilkm.specs.Pieces.{pieces_behind, HaveValues, IsWrongAt}
 use Rattle.cilkm.specs.Source.{HasAccepted, IsRefusedBy, RunsAs}
 use Rattle.cilkm.specs.declared.command.Command.{Command}
-use Rattle.cilkm.specs.declared.command.Command.TheVariants.{Check, Serial}
+use Rattle.cilkm.specs.declared.command.Command.TheVariants.{Check, Serial, Mean}
 use Rattle.cilkm.specs.declared.refusal.Refusal.{Refusal}
 use Rattle.cilkm.specs.declared.refusal.Refusal.TheVariants as refusal
 use Rattle.cilkm.specs.declared.verdict.Verdict.{Verdict}
-use Rattle.cilkm.specs.declared.verdict.Verdict.TheVariants.{Usage, Read, Long, Refused, Accepted, Value, Memory}
-
--- ---- the command
-
--- the bytes of each word
-abbrev pub texts : List (Bor (List ℕ)) → List (List ℕ)
-texts words = map (λ word. word.now) words
-
--- the command of the words after the program's name, and None where they are no command
-abbrev pub command_of : List (List ℕ) → Option Command
-command_of (word ∷ []) = if bytes_eq word (codes "check") then Some Check else if bytes_eq word (codes "serial") then Some Serial else None
-command_of _ = None
+use Rattle.cilkm.specs.declared.verdict.Verdict.TheVariants.{Usage, Read, Long, Refused, Input, Accepted, Value, Ended, Memory}
 
 -- ---- texts and statuses
-
--- the most bytes of standard input
-abbrev pub max_input : ℕ
-max_input = 4194304
 
 -- the word of a refusal
 abbrev pub refusal_word : Refusal → List ℕ
@@ -59,9 +48,17 @@ verdict_text Usage = codes "usage\n"
 verdict_text Read = codes "read\n"
 verdict_text Long = codes "long\n"
 verdict_text (Refused offset why) = refusal_text offset why
+verdict_text (Input at) = codes "input " ++ (decimal at ++ codes "\n")
 verdict_text Accepted = codes "accepted\n"
 verdict_text (Value run) = codes "value " ++ (signed_decimal run.value ++ codes "\n")
+verdict_text (Ended end) = ended_text end
 verdict_text Memory = codes "memory\n"
+
+-- the status of an end
+abbrev pub ended_status : End → ℕ
+ended_status (ended.Done output value ticks) = 0
+ended_status (ended.Trap output kind ticks) = 3
+ended_status ended.Spent = 4
 
 -- the status with which the program ends
 abbrev pub verdict_status : Verdict → ℕ
@@ -69,11 +66,32 @@ verdict_status Usage = 2
 verdict_status Read = 5
 verdict_status Long = 8
 verdict_status (Refused offset why) = 1
+verdict_status (Input at) = 10
 verdict_status Accepted = 0
 verdict_status (Value run) = 0
+verdict_status (Ended end) = ended_status end
 verdict_status Memory = 7
 
 -- ---- why it is answered
+
+-- The first piece of standard input that isn't a number, or the first one too many, stands behind so many bytes, and
+-- the source is accepted.
+pub record HasWrongPiece (input : List ℕ) (at : ℕ) : Type 0 where
+  pub source : List ℕ
+  pub program : Program
+  pub cut : IsCut input source
+  pub accepted : HasAccepted source program
+  pub wrong : IsWrongAt (pieces_behind input source) at
+
+-- the source of standard input is accepted, its pieces are numbers, and this is the end of the elision with them
+pub record HasEnd (input : List ℕ) (limits : Limits) (end : End) : Type 0 where
+  pub source : List ℕ
+  pub program : Program
+  pub numbers : List ℤ
+  pub cut : IsCut input source
+  pub accepted : HasAccepted source program
+  pub values : HaveValues (pieces_behind input source) numbers
+  pub serial : SerialEnd program numbers (limits_of limits) (end_of end)
 
 -- the command comes to this verdict with this standard input
 abbrev pub Brings : Verdict → Command → (input : List ℕ) → Type 0
@@ -81,6 +99,8 @@ Brings Long command input = max_input < length input
 Brings (Refused offset why) command input = (length input ≤ max_input) × (source : List ℕ) × IsCut input source × IsRefusedBy command source offset why
 Brings Accepted Check input = (length input ≤ max_input) × (source : List ℕ) × (program : Program) × IsCut input source × HasAccepted source program
 Brings (Value run) Serial input = (length input ≤ max_input) × (source : List ℕ) × IsCut input source × RunsAs source run
+Brings (Input at) (Mean limits) input = (length input ≤ max_input) × HasWrongPiece input at
+Brings (Ended end) (Mean limits) input = (length input ≤ max_input) × HasEnd input limits end
 Brings _ command input = ⊥
 
 -- the command, or None for words that are no command, comes to this verdict with this standard input

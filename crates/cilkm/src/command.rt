@@ -1,6 +1,12 @@
 //! The words after the program's name.
-ghost use Rattle.std.specs.Prelude.{◌≡◌};
-ghost use Rattle.cilkm.specs.Verdict.{command_of, texts};
+ghost use Rattle.std.specs.Prelude.{◌≡◌, List, ℕ, IfSome, Option};
+ghost use Rattle.cilkm.specs.Asked.{texts, AsksOrNot, IsWithin, command_with};
+ghost use Rattle.cilkm.specs.Setting.{given_by};
+ghost use Rattle.cilkm.specs.declared.setting.Setting.{Setting};
+ghost use Rattle.cilkm.specs.declared.command.Command.{Command};
+
+use crate::setting::{Given, Key, read_settings};
+use cm_meaning::Limits;
 
 /// What the program is asked to do.
 #[derive(Clone, Copy, Debug, PartialEq, Eq)]
@@ -9,15 +15,80 @@ pub enum Command {
     Check,
     /// `serial`: compile the source of standard input, and run its words on one hart.
     Serial,
+    /// `mean`: find the end of the serial elision of the source of standard input, within limits.
+    Mean(Limits),
+}
+
+/// The name of a command.
+#[derive(Clone, Copy, Debug, PartialEq, Eq)]
+pub enum Name {
+    /// `check`.
+    Check,
+    /// `serial`.
+    Serial,
+    /// `mean`.
+    Mean,
+}
+
+impl Name {
+    ghost use Rattle.std.specs.Prelude.{◌≡◌};
+    ghost use Rattle.cilkm.specs.Asked.{name_of};
+    ghost use Rattle.cilkm.specs.Setting.{takes};
+
+    /// The name that a word is, exactly where it is one.
+    fn of(word: &str) -> Option<Name>
+        ensures { result ≡ name_of word.now }
+    {
+        match word {
+            "check" => Some(Name::Check),
+            "serial" => Some(Name::Serial),
+            "mean" => Some(Name::Mean),
+            _ => None,
+        }
+    }
+
+    /// Whether the command has a key: only `mean` has any.
+    pub fn takes(self, key: Key) -> bool
+        ensures { result ≡ takes self key }
+    {
+        match self {
+            Name::Check | Name::Serial => false,
+            Name::Mean => match key {
+                Key::Ticks | Key::Stack | Key::Page => true,
+            },
+        }
+    }
 }
 
 /// The command of the words after the program's name, or None exactly where they are no command.
 pub fn parse(words: &[&str]) -> Option<Command>
-    ensures { result ≡ command_of (texts words.now) }
+    ensures asked { AsksOrNot (texts words.now) result }
+    ensures within { IfSome result IsWithin }
 {
-    match words {
-        [word] if *word == "check" => Some(Command::Check),
-        [word] if *word == "serial" => Some(Command::Serial),
-        _ => None,
+    let [first, more @ ..] = words else {
+        return None;
+    };
+    let Some(name) = Name::of(first) else {
+        return None;
+    };
+    match read_settings(name, more) {
+        Some(given) => Some(command_with(name, &given)),
+        None => None,
     }
 }
+
+/// The command of a name, with what its settings give.
+fn command_with(name: Name, given: &Given) -> Command
+    ensures { (settings : List Setting) → given.now ≡ given_by settings → result ≡ command_with name settings }
+{
+    match name {
+        Name::Check => Command::Check,
+        Name::Serial => Command::Serial,
+        Name::Mean => Command::Mean(given.limits()),
+    }
+}
+
+/// The words are one command at most.
+pub fn one_command()
+    ensures { (words : List (List ℕ)) (a b : Option Command) → AsksOrNot words a → AsksOrNot words b → a ≡ b }
+{}

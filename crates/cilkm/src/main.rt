@@ -1,4 +1,5 @@
-//! `cilkm COMMAND`: compiles a source from standard input and runs it on a verified machine.
+//! `cilkm COMMAND [KEY=NUMBER]..`: compiles a source from standard input and runs it on a verified machine, or finds what
+//! it means.
 //!
 //! This file makes the real streams and ends with the status; `still` does the rest.
 #![tactic(auto)]
@@ -7,8 +8,10 @@ mod command;
 mod cut;
 mod first;
 mod hart;
+mod pieces;
 mod program;
 mod refusal;
+mod setting;
 mod still;
 #[cfg(test)]
 mod tests;

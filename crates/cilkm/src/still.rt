@@ -1,23 +1,34 @@
 //! The top call: from the words and standard input to the status and standard output.
-ghost use Rattle.std.specs.Prelude.{◌≡◌, ◌≢◌, ℕ, ◌≤◌, ◌⊎◌, Some, IfOk, IfSome, length, List};
+ghost use Rattle.std.specs.Prelude.{◌≡◌, ◌≢◌, ℕ, ℤ, ◌≤◌, ◌⊎◌, Option, Some, IfOk, IfSome, length, List};
 ghost use Rattle.std.specs.IoError.{error_kind};
 ghost use Rattle.cm_text.specs.Count.{Rose};
 ghost use Rattle.cm_syntax.specs.declared.expr.Expr.{Expr};
 ghost use Rattle.cm_syntax.specs.declared.stmt.Program.{Program};
-ghost use Rattle.cilkm.specs.Cut.{IsCut};
+ghost use Rattle.cm_meaning.specs.Ended.{end_of, limits_of};
+ghost use Rattle.cm_meaning.specs.Meaning.{SerialEnd};
+ghost use Rattle.cm_meaning.specs.Range.{HasRanges};
+ghost use Rattle.cm_meaning.specs.declared.ended.Ended.{Ended as End};
+ghost use Rattle.cm_meaning.specs.declared.ended.Limits.{Limits as LimitsOf};
+ghost use Rattle.cilkm.specs.Asked.{texts, Asks, AsksOrNot, IsWithin};
+ghost use Rattle.cilkm.specs.Cut.{max_input, IsCut};
 ghost use Rattle.cilkm.specs.First.{IsFirstForm};
 ghost use Rattle.cilkm.specs.Run.{Run, IsRunOf};
-ghost use Rattle.cilkm.specs.Source.{HasProgram};
+ghost use Rattle.cilkm.specs.Pieces.{pieces_behind, HaveValues};
+ghost use Rattle.cilkm.specs.Source.{HasProgram, HasAccepted};
+ghost use Rattle.cilkm.specs.declared.command.Command.{Command};
 ghost use Rattle.cilkm.specs.declared.command.Command.TheVariants as commands;
 ghost use Rattle.cilkm.specs.declared.verdict.Verdict.{Verdict};
 ghost use Rattle.cilkm.specs.declared.verdict.Verdict.TheVariants as verdicts;
-ghost use Rattle.cilkm.specs.Verdict.{texts, command_of, max_input, verdict_text, Means, IsCaused, Says, GoesOut, Tells, IsDecided};
+ghost use Rattle.cilkm.specs.Verdict.{verdict_text, Means, IsCaused, Says, GoesOut, Tells, IsDecided};
 
 use crate::command::{self, Command};
 use crate::cut::source_of;
+use crate::pieces::{PieceStop, numbers};
 use crate::program::{check_source, run_source};
 use crate::refusal::Stop;
 use crate::verdict::Verdict;
+use cm_meaning::{Limits, elide};
+use cm_syntax::Checked;
 use cm_text::{Memory, ReadEnd, Sink, Source, read_all, write_all};
 use std::alloc::Global;
 use std::io::{self, ErrorKind};
@@ -29,21 +40,30 @@ const MAX_INPUT: u32 = 4_194_304;
 /// status with which the program ends.
 pub fn still<I: Source, O: Sink>(alloc: Global, words: &[&str], source: &mut I, sink: &mut O) -> u8
     // Some verdict has its cause, and its text went out: whole, with its status, or a front of it, with status 6.
-    ensures answered { (verdict : Verdict)
-        × IsCaused (command_of (texts words.now)) (I.left source.old) (I.faults source.old) (I.faults source.new) verdict
+    ensures answered { (command : Option Command) × (verdict : Verdict) × AsksOrNot (texts words.now) command
+        × IsCaused command (I.left source.old) (I.faults source.old) (I.faults source.new) verdict
         × GoesOut verdict result (O.taken sink.old) (O.taken sink.new) (O.faults sink.old) (O.faults sink.new) }
 
     // Each status but 5, 6 and 7, and its text, is what the words and the input decide.
-    ensures exact { IfSome (I.left source.old) (λ input. IsDecided result → (verdict : Verdict)
-        × Means (command_of (texts words.now)) input verdict × Says verdict result (O.taken sink.old) (O.taken sink.new)) }
+    ensures exact { IfSome (I.left source.old) (λ input. IsDecided result → (command : Option Command) × (verdict : Verdict)
+        × AsksOrNot (texts words.now) command × Means command input verdict × Says verdict result (O.taken sink.old) (O.taken sink.new)) }
 
     // A source whose program is of the first form is compiled, run, and its value printed, unless a stream fails or
     // memory runs out.
-    ensures serial { command_of (texts words.now) ≡ Some commands.Serial → IfSome (I.left source.old) (λ input.
+    ensures serial { Asks (texts words.now) commands.Serial → IfSome (I.left source.old) (λ input.
         (text : List ℕ) (program : Program) (expression : Expr ℕ) → length input ≤ max_input → IsCut input text
         → HasProgram text program → IsFirstForm program expression
         → (Rose (I.faults source.old) (I.faults source.new) → ⊥) → (Rose (O.faults sink.old) (O.faults sink.new) → ⊥)
         → ((run : Run) × IsRunOf expression run × Says (verdicts.Value run) result (O.taken sink.old) (O.taken sink.new))
+        ⊎ Says verdicts.Memory result (O.taken sink.old) (O.taken sink.new)) }
+
+    // Of an accepted source with numbers behind it `mean` prints the end of the serial elision, unless a stream fails or
+    // memory runs out.
+    ensures mean { (limits : LimitsOf) → Asks (texts words.now) (commands.Mean limits) → IfSome (I.left source.old) (λ input.
+        (text : List ℕ) (program : Program) (numbers : List ℤ) → length input ≤ max_input → IsCut input text
+        → HasAccepted text program → HaveValues (pieces_behind input text) numbers
+        → (Rose (I.faults source.old) (I.faults source.new) → ⊥) → (Rose (O.faults sink.old) (O.faults sink.new) → ⊥)
+        → ((end : End) × SerialEnd program numbers (limits_of limits) (end_of end) × Says (verdicts.Ended end) result (O.taken sink.old) (O.taken sink.new))
         ⊎ Says verdicts.Memory result (O.taken sink.old) (O.taken sink.new)) }
 
     ensures source_kept { I.faults source.old ≤ I.faults source.new }
@@ -69,7 +89,8 @@ pub fn refuse_words<O: Sink>(alloc: Global, error: &io::Error, sink: &mut O) -> 
 
 /// What the words come to.
 fn judge<I: Source>(alloc: Global, words: &[&str], source: &mut I) -> Verdict
-    ensures cause { IsCaused (command_of (texts words.now)) (I.left source.old) (I.faults source.old) (I.faults source.new) result }
+    ensures cause { (command : Option Command) × AsksOrNot (texts words.now) command
+        × IsCaused command (I.left source.old) (I.faults source.old) (I.faults source.new) result }
     ensures kept { I.faults source.old ≤ I.faults source.new }
 {
     match command::parse(words) {
@@ -87,6 +108,7 @@ fn source_verdict<I: Source>(
     command: Command,
     source: &mut I,
 ) -> Result<Verdict, Memory>
+    requires { IsWithin command }
     ensures cause { IfOk result (IsCaused (Some command) (I.left source.old) (I.faults source.old) (I.faults source.new)) }
     ensures kept { I.faults source.old ≤ I.faults source.new }
 {
@@ -102,12 +124,14 @@ fn source_verdict<I: Source>(
 
 /// What a command comes to with the bytes of standard input.
 fn input_verdict(alloc: Global, command: Command, input: &[u8]) -> Result<Verdict, Memory>
-    requires { length input.now ≤ max_input }
+    requires short { length input.now ≤ max_input }
+    requires within { IsWithin command }
     ensures { IfOk result (Means (Some command) input.now) }
 {
     match command {
         Command::Check => check_verdict(alloc, input),
         Command::Serial => serial_verdict(alloc, input),
+        Command::Mean(limits) => mean_verdict(alloc, &limits, input),
     }
 }
 
@@ -135,18 +159,56 @@ fn serial_verdict(alloc: Global, input: &[u8]) -> Result<Verdict, Memory>
     }
 }
 
-/// Writes the verdict's line, or that of want of memory, and gives the status.
+/// What `mean` comes to: the source of standard input is checked, and its elision with the numbers behind it is evaluated.
+fn mean_verdict(alloc: Global, limits: &Limits, input: &[u8]) -> Result<Verdict, Memory>
+    requires short { length input.now ≤ max_input }
+    requires within { HasRanges (limits_of limits.now) }
+    ensures { IfOk result (Means (Some (commands.Mean limits.now)) input.now) }
+{
+    let source = source_of(input);
+    match check_source(alloc, source) {
+        Ok(program) => elision_verdict(alloc, limits, input, source, &program),
+        Err(Stop::Refused(at, refusal)) => Ok(Verdict::Refused(at, refusal)),
+        Err(Stop::Memory) => Err(Memory),
+    }
+}
+
+/// What `mean` comes to with an accepted source.
+fn elision_verdict(
+    alloc: Global,
+    limits: &Limits,
+    input: &[u8],
+    source: &[u8],
+    program: &Checked,
+) -> Result<Verdict, Memory>
+    requires short { length input.now ≤ max_input }
+    requires within { HasRanges (limits_of limits.now) }
+    requires cut { IsCut input.now source.now }
+    requires accepted { HasAccepted source.now program.now }
+    ensures { IfOk result (Means (Some (commands.Mean limits.now)) input.now) }
+{
+    match numbers(alloc, input, source.len() + 2) {
+        Ok(numbers) => {
+            let ended = elide(alloc, program, numbers.items(), limits)?;
+            Ok(Verdict::Ended(ended))
+        }
+        Err(PieceStop::Piece { at }) => Ok(Verdict::Input(at)),
+        Err(PieceStop::Memory) => Err(Memory),
+    }
+}
+
+/// Writes the verdict's text, or that of want of memory, and gives the status.
 fn tell<O: Sink>(alloc: Global, verdict: Verdict, sink: &mut O) -> u8
     ensures told { Tells verdict result (O.taken sink.old) (O.taken sink.new) (O.faults sink.old) (O.faults sink.new) }
     ensures kept { O.faults sink.old ≤ O.faults sink.new }
 {
     match verdict.text(alloc) {
-        Ok(text) => say(&verdict, text.as_bytes(), sink),
+        Ok(text) => say(&verdict, text.items(), sink),
         Err(_) => say(&Verdict::Memory, b"memory\n", sink),
     }
 }
 
-/// Writes a verdict's line, and gives the status: 6 where the sink failed.
+/// Writes a verdict's text, and gives the status: 6 where the sink failed.
 fn say<O: Sink>(verdict: &Verdict, text: &[u8], sink: &mut O) -> u8
     requires { text.now ≡ verdict_text verdict.now }
     ensures said { GoesOut verdict.now result (O.taken sink.old) (O.taken sink.new) (O.faults sink.old) (O.faults sink.new) }

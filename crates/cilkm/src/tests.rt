@@ -1,6 +1,7 @@
 //! The program over streams in memory: its words, limits met and passed, and streams that fail. The tables of sources
 //! stand in the modules below.
 mod lending;
+mod mean;
 mod name;
 mod output;
 mod reader;

@@ -1,13 +1,15 @@
 //! What the program answers: its verdicts, their texts and statuses.
-ghost use Rattle.std.specs.Prelude.{◌≡◌, ℕ, List, Option, IfOk};
-ghost use Rattle.std.specs.String.{string_bytes};
+ghost use Rattle.std.specs.Prelude.{◌≡◌, ◌++◌, ℕ, List as ListOf, Option, codes, IfOk};
+ghost use Rattle.std.specs.Fmt.{decimal, signed_decimal};
 ghost use Rattle.cilkm.specs.declared.command.Command.{Command};
 ghost use Rattle.cilkm.specs.declared.verdict.Verdict.{Verdict};
-ghost use Rattle.cilkm.specs.Verdict.{Means, AnswersSame, refusal_text};
+ghost use Rattle.cilkm.specs.Verdict.{Means, AnswersSame, refusal_text, ended_status as status_of_end};
 
 use crate::hart::EndedRun;
 use crate::refusal::Refusal;
-use std::alloc::{AllocError, Global};
+use cm_meaning::{Ended, text as ended_text};
+use cm_text::{Bytes, List, Memory};
+use std::alloc::Global;
 
 /// What the words and standard input come to.
 #[derive(Debug, Drop)]
@@ -20,17 +22,20 @@ pub enum Verdict {
     Long,
     /// The source is refused at an offset, in bytes from its start, for a reason.
     Refused(u32, Refusal),
+    /// The piece of standard input behind so many bytes is no number, or one too many.
+    Input(u32),
     /// The source is accepted.
     Accepted,
     /// The source was compiled, and the run of its code ended with a value.
     Value(EndedRun),
+    /// The source's serial elision ends so.
+    Ended(Ended),
     /// There was no memory left.
     Memory,
 }
 
 impl Verdict {
     ghost use Rattle.std.specs.Prelude.{◌≡◌, IfOk};
-    ghost use Rattle.std.specs.String.{string_bytes};
     ghost use Rattle.cilkm.specs.Verdict.{verdict_status, verdict_text};
 
     /// The status with which the program ends.
@@ -42,41 +47,81 @@ impl Verdict {
             Verdict::Read => 5,
             Verdict::Long => 8,
             Verdict::Refused(..) => 1,
+            Verdict::Input(_) => 10,
             Verdict::Accepted => 0,
             Verdict::Value(_) => 0,
+            Verdict::Ended(ended) => ended_status(ended),
             Verdict::Memory => 7,
         }
     }
 
-    /// The line that the program prints.
-    pub fn text(&self, alloc: Global) -> Result<String, AllocError>
-        ensures { IfOk result (λ text. string_bytes text ≡ verdict_text self.now) }
+    /// What the program prints.
+    pub fn text(&self, alloc: Global) -> Result<Bytes, Memory>
+        ensures { IfOk result (λ text. text ≡ verdict_text self.now) }
     {
         match self {
-            Verdict::Usage => String::from_str(alloc, "usage\n"),
-            Verdict::Read => String::from_str(alloc, "read\n"),
-            Verdict::Long => String::from_str(alloc, "long\n"),
+            Verdict::Usage => line(alloc, "usage\n"),
+            Verdict::Read => line(alloc, "read\n"),
+            Verdict::Long => line(alloc, "long\n"),
             Verdict::Refused(offset, refusal) => refusal_line(alloc, *offset, *refusal),
-            Verdict::Accepted => String::from_str(alloc, "accepted\n"),
-            Verdict::Value(run) => format!(in alloc; "value {}\n", run.value()),
-            Verdict::Memory => String::from_str(alloc, "memory\n"),
+            Verdict::Input(offset) => input_line(alloc, *offset),
+            Verdict::Accepted => line(alloc, "accepted\n"),
+            Verdict::Value(run) => value_line(alloc, run.value()),
+            Verdict::Ended(ended) => ended_text(alloc, ended),
+            Verdict::Memory => line(alloc, "memory\n"),
         }
     }
 }
 
+/// The status of an end.
+fn ended_status(ended: &Ended) -> u8
+    ensures { result ≡ status_of_end ended.now }
+{
+    match ended {
+        Ended::Done { .. } => 0,
+        Ended::Trap { .. } => 3,
+        Ended::Spent => 4,
+    }
+}
+
+/// The bytes of a line that is a constant.
+fn line(alloc: Global, line: &str) -> Result<Bytes, Memory>
+    ensures { IfOk result (λ text. text ≡ line.now) }
+{
+    let text = String::from_str(alloc, line)?;
+    Ok(List::from_vec(text.into_bytes()))
+}
+
 /// The line of a refusal at an offset.
-fn refusal_line(alloc: Global, offset: u32, refusal: Refusal) -> Result<String, AllocError>
-    ensures { IfOk result (λ text. string_bytes text ≡ refusal_text offset refusal) }
+fn refusal_line(alloc: Global, offset: u32, refusal: Refusal) -> Result<Bytes, Memory>
+    ensures { IfOk result (λ text. text ≡ refusal_text offset refusal) }
 {
     let word = refusal.word();
-    match refusal {
-        Refusal::Lent(spawn) => format!(in alloc; "refused {offset} {word} {spawn}\n"),
-        _ => format!(in alloc; "refused {offset} {word}\n"),
-    }
+    let text = match refusal {
+        Refusal::Lent(spawn) => format!(in alloc; "refused {offset} {word} {spawn}\n")?,
+        _ => format!(in alloc; "refused {offset} {word}\n")?,
+    };
+    Ok(List::from_vec(text.into_bytes()))
+}
+
+/// The line of a piece that is no number, or one too many, at an offset.
+fn input_line(alloc: Global, offset: u32) -> Result<Bytes, Memory>
+    ensures { IfOk result (λ text. text ≡ codes "input " ++ (decimal offset ++ codes "\n")) }
+{
+    let text = format!(in alloc; "input {offset}\n")?;
+    Ok(List::from_vec(text.into_bytes()))
+}
+
+/// The line of a value.
+fn value_line(alloc: Global, value: i32) -> Result<Bytes, Memory>
+    ensures { IfOk result (λ text. text ≡ codes "value " ++ (signed_decimal value ++ codes "\n")) }
+{
+    let text = format!(in alloc; "value {value}\n")?;
+    Ok(List::from_vec(text.into_bytes()))
 }
 
 /// The words and standard input come to one answer at most.
 pub fn one_answer()
-    ensures { (command : Option Command) (input : List ℕ) (a b : Verdict) → Means command input a
+    ensures { (command : Option Command) (input : ListOf ℕ) (a b : Verdict) → Means command input a
         → Means command input b → AnswersSame a b }
 {}

@@ -8,3 +8,13 @@ pub mod Program
 pub mod Image
 pub mod Emitted
 pub mod Tree
+pub mod SizeLaw
+pub mod ImageLaw
+pub mod BuilderLaw
+pub mod LayoutLaw
+pub mod CodeLaw
+pub mod ExpressionLaw
+pub mod StatementLaw
+pub mod FunctionLaw
+pub mod FitsLaw
+pub mod LayingLaw

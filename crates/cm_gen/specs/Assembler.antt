@@ -38,3 +38,49 @@ bne rs1 rs2 distance = record { kind = kinds.Bne; rd = 0; rs1 = rs1; rs2 = rs2; 
 
 abbrev pub bgeu : (rs1 rs2 : ℕ) → (distance : ℤ) → Operation
 bgeu rs1 rs2 distance = record { kind = kinds.Bgeu; rd = 0; rs1 = rs1; rs2 = rs2; imm = distance }
+
+abbrev pub beq : (rs1 rs2 : ℕ) → (distance : ℤ) → Operation
+beq rs1 rs2 distance = record { kind = kinds.Beq; rd = 0; rs1 = rs1; rs2 = rs2; imm = distance }
+
+abbrev pub bltu : (rs1 rs2 : ℕ) → (distance : ℤ) → Operation
+bltu rs1 rs2 distance = record { kind = kinds.Bltu; rd = 0; rs1 = rs1; rs2 = rs2; imm = distance }
+
+-- quotient and remainder
+abbrev pub div : (rd rs1 rs2 : ℕ) → Operation
+div rd rs1 rs2 = record { kind = kinds.Div; rd = rd; rs1 = rs1; rs2 = rs2; imm = pos 0 }
+
+abbrev pub rem : (rd rs1 rs2 : ℕ) → Operation
+rem rd rs1 rs2 = record { kind = kinds.Rem; rd = rd; rs1 = rs1; rs2 = rs2; imm = pos 0 }
+
+-- bit by bit
+abbrev pub and : (rd rs1 rs2 : ℕ) → Operation
+and rd rs1 rs2 = record { kind = kinds.And; rd = rd; rs1 = rs1; rs2 = rs2; imm = pos 0 }
+
+abbrev pub or : (rd rs1 rs2 : ℕ) → Operation
+or rd rs1 rs2 = record { kind = kinds.Or; rd = rd; rs1 = rs1; rs2 = rs2; imm = pos 0 }
+
+abbrev pub xor : (rd rs1 rs2 : ℕ) → Operation
+xor rd rs1 rs2 = record { kind = kinds.Xor; rd = rd; rs1 = rs1; rs2 = rs2; imm = pos 0 }
+
+abbrev pub xori : (rd rs1 : ℕ) → (imm : ℤ) → Operation
+xori rd rs1 imm = record { kind = kinds.Xori; rd = rd; rs1 = rs1; rs2 = 0; imm = imm }
+
+-- shifts: to the left, and to the right with copies of the sign; and to the left by a number
+abbrev pub sll : (rd rs1 rs2 : ℕ) → Operation
+sll rd rs1 rs2 = record { kind = kinds.Sll; rd = rd; rs1 = rs1; rs2 = rs2; imm = pos 0 }
+
+abbrev pub sra : (rd rs1 rs2 : ℕ) → Operation
+sra rd rs1 rs2 = record { kind = kinds.Sra; rd = rd; rs1 = rs1; rs2 = rs2; imm = pos 0 }
+
+abbrev pub slli : (rd rs1 : ℕ) → (amount : ℤ) → Operation
+slli rd rs1 amount = record { kind = kinds.Slli; rd = rd; rs1 = rs1; rs2 = 0; imm = amount }
+
+-- whether the first is less: as signed numbers, as unsigned numbers, and than an immediate as unsigned numbers
+abbrev pub slt : (rd rs1 rs2 : ℕ) → Operation
+slt rd rs1 rs2 = record { kind = kinds.Slt; rd = rd; rs1 = rs1; rs2 = rs2; imm = pos 0 }
+
+abbrev pub sltu : (rd rs1 rs2 : ℕ) → Operation
+sltu rd rs1 rs2 = record { kind = kinds.Sltu; rd = rd; rs1 = rs1; rs2 = rs2; imm = pos 0 }
+
+abbrev pub sltiu : (rd rs1 : ℕ) → (imm : ℤ) → Operation
+sltiu rd rs1 imm = record { kind = kinds.Sltiu; rd = rd; rs1 = rs1; rs2 = 0; imm = imm }

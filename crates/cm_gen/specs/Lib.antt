@@ -2,3 +2,10 @@
 pub mod Assembler
 pub mod Code
 pub mod Run
+pub mod Part
+pub mod Expression
+pub mod Statement
+pub mod Image
+pub mod Row
+pub mod Builder
+pub mod Fits

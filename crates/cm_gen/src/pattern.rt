@@ -12,7 +12,7 @@ use cm_isa::convention::{ACCOUNT, FP, HELP, RA, RESULT, SERVICE, SP, TICKS, VALU
 use cm_text::{List, Memory};
 
 /// Whether a number fits an immediate of 12 bits.
-fn is_near(number: i32) -> bool
+pub(crate) fn is_near(number: i32) -> bool
     ensures value { result ≡ pattern.is_near number }
     ensures fits { IsTrue result → IsSigned 12 number }
 {
@@ -20,7 +20,7 @@ fn is_near(number: i32) -> bool
 }
 
 /// The low 12 bits of a number, as a signed number.
-fn low_part(number: i32) -> i32
+pub(crate) fn low_part(number: i32) -> i32
     ensures value { result ≡ pattern.low_part number }
     ensures fits { IsSigned 12 result }
 {
@@ -28,7 +28,7 @@ fn low_part(number: i32) -> i32
 }
 
 /// What is left of a number above its low part, modulo 2^32: its low 12 bits are 0.
-fn high_part(number: i32) -> i32
+pub(crate) fn high_part(number: i32) -> i32
     ensures value { result ≡ pattern.high_part number }
     ensures upper { unsigned_abs result % 4096 ≡ 0 }
 {

@@ -1,4 +1,4 @@
-//! Outputs and the texts of ends, where there is memory. No command prints one yet.
+//! Outputs and the texts of ends, where there is memory.
 use cm_meaning::{Ended, Output, Trap, text};
 use std::test::Fail;
 

@@ -1,0 +1,5 @@
+use Rattle.cm_gen.proofs.FitsLaw.{fits}
+use Rattle.cm_gen.proofs.law.frames_hold_temporaries.Goals as goal
+
+pub returns : goal.returns
+returns c = fits

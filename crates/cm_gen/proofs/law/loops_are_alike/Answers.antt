@@ -1,0 +1,5 @@
+use Rattle.cm_gen.proofs.SizeLaw.{while_turn}
+use Rattle.cm_gen.proofs.law.loops_are_alike.Goals as goal
+
+pub returns : goal.returns
+returns c = while_turn

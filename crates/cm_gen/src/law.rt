@@ -1,0 +1,53 @@
+//! Laws of the definitions of the code. The functions do nothing: their contracts are the laws.
+
+ghost use Rattle.std.specs.Prelude.{◌≡◌, ◌≤◌, ◌+◌, ◌*◌, ◌++◌, ℕ, List, length, false, true, Some, slice_get};
+ghost use Rattle.cm_syntax.specs.declared.expr.Expr.{Expr};
+ghost use Rattle.cm_syntax.specs.declared.stmt.Slot.{Slot};
+ghost use Rattle.cm_syntax.specs.declared.stmt.Stmt.{Stmt};
+ghost use Rattle.cm_syntax.specs.declared.stmt.Stmt.TheVariants as statement;
+ghost use Rattle.cm_syntax.specs.declared.stmt.Function.{Function};
+ghost use Rattle.cm_syntax.specs.declared.stmt.Program.{Program};
+ghost use Rattle.cm_syntax.specs.Shape.{WhileLoop};
+ghost use Rattle.cm_gen.specs.declared.form.Form.{Form};
+ghost use Rattle.cm_gen.specs.declared.form.Form.TheVariants.{Serial};
+ghost use Rattle.cm_syntax.specs.Frame.{temporaries};
+ghost use Rattle.cm_syntax.specs.Limit.{max_frame_words};
+ghost use Rattle.cm_gen.specs.Fits.{Fits, HasShortCalls};
+ghost use Rattle.cm_gen.specs.Part.{laid};
+ghost use Rattle.cm_gen.specs.Statement.{statement_code, statement_size, body_code, body_size, loop_code, turn_code};
+ghost use Rattle.cm_gen.specs.Image.{image_of, front_of, serial_part, serial_end, functions_start, functions_code, marked, entries};
+
+/// The code of a statement has as many words as its size says, wherever it stands.
+pub fn code_sizes()
+    ensures statement { (form : Form) (slots : List Slot) (behind : ℕ) (s : Stmt ℕ)
+        → length (statement_code form slots behind s) ≡ statement_size form slots s }
+    ensures body { (form : Form) (slots : List Slot) (behind : ℕ) (body : List (Stmt ℕ))
+        → length (body_code form slots behind body) ≡ body_size form slots body }
+{}
+
+/// A `while` is a `for` that does nothing before it and at the end of a turn.
+pub fn loops_are_alike()
+    ensures { (form : Form) (slots : List Slot) (behind : ℕ) (test : Expr ℕ) (body : Stmt ℕ)
+        → statement_code form slots behind (WhileLoop test body)
+        ≡ loop_code slots (Some test) (turn_code form slots behind statement.Empty body) }
+{}
+
+/// In both builds the functions that aren't marked `cilk` have the same words at the same addresses: `serial_part`, which
+/// names no build, from `functions_start` to `serial_end`.
+pub fn serial_parts_are_alike()
+    ensures front { (program : Program) (form : Form) (page : ℕ)
+        → 4 * length (front_of program form page) ≡ functions_start program }
+    ensures part { (program : Program) (form : Form) (page : ℕ)
+        → image_of program form page ≡ front_of program form page
+        ++ (serial_part program page
+        ++ laid (serial_end program page) (functions_code form page (marked true program.functions))) }
+    ensures addresses { (program : Program) (form : Form) (page j : ℕ) (f : Function ℕ)
+        → slice_get program.functions j ≡ Some f → f.cilk ≡ false
+        → slice_get (entries program form page) j ≡ slice_get (entries program Serial page) j }
+{}
+
+/// The code of an expression can be made where its temporaries are within a frame and each of its calls has at most eight
+/// words of arguments.
+pub fn frames_hold_temporaries()
+    ensures { (e : Expr ℕ) (d : ℕ) → HasShortCalls e → temporaries e d ≤ max_frame_words → Fits e d }
+{}
