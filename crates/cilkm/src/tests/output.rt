@@ -46,7 +46,8 @@ fn outputs(rt: HostRuntime) -> Result<(), Fail> {
 }
 
 /// The Fibonacci number of 10, by spawned calls.
-const FIB: &str = "cilk int fib(int n) { int x, y; if (n < 2) return n; x = spawn fib(n - 1); y = spawn fib(n - 2); sync;
+const FIB: &str =
+    "cilk int fib(int n) { int x, y; if (n < 2) return n; x = spawn fib(n - 1); y = spawn fib(n - 2); sync;
 return x + y; } cilk int main() { int r; r = spawn fib(10); sync; return r; }";
 
 /// What the elision of an accepted source takes of the stack.
