@@ -58,7 +58,7 @@ list_of_row-fits : (n : _) (row : Row_of-Arg ℕ n) (d w : ℕ) → RowFits row 
 list_of_row-fits n end_of-Arg d w h = h
 list_of_row-fits n (more_of-Arg first more) d w h = (h.0, list_of_row-fits _ more d (w + argument_words first) h.1)
 
-list_of_row-code : (n : _) (row : Row_of-Arg ℕ n) (slots : List Slot) (d w : ℕ) → arguments_code slots row d w ≡ list_code slots (items-the_row-Arg ℕ n row) d w
+pub list_of_row-code : (n : _) (row : Row_of-Arg ℕ n) (slots : List Slot) (d w : ℕ) → arguments_code slots row d w ≡ list_code slots (items-the_row-Arg ℕ n row) d w
 list_of_row-code n end_of-Arg slots d w = refl
 list_of_row-code n (more_of-Arg (argument.Value e) more) slots d w =
     ap (λ later. expression_code slots e (d + w) ++ (straight (keep_word slots (d + w)) ++ later)) (list_of_row-code _ more slots d (w + 1))
@@ -68,7 +68,7 @@ list_of_row-code n (more_of-Arg (argument.Slice a) more) slots d w =
 list_of_row-code n (more_of-Arg (argument.Address x) more) slots d w =
     ap (λ later. argument_code slots (argument.Address x) (d + w) ++ later) (list_of_row-code _ more slots d (w + 2))
 
-abbrev row_of_call : Expr ℕ → (n : Count) × Row_of-Arg ℕ n
+abbrev pub row_of_call : Expr ℕ → (n : Count) × Row_of-Arg ℕ n
 row_of_call (expression.Call' _ _ row) = (_, row)
 row_of_call _ = (_, end_of-Arg)
 

@@ -18,11 +18,11 @@ function_fits_at [] i f h lt is = absurd (omega arith)
 function_fits_at (first ∷ more) zero f h lt is = subst FunctionFits (sym is) h.0
 function_fits_at (first ∷ more) (suc i) f h lt is = function_fits_at more i f h.1 (omega arith) is
 
-marked_same : (cilk : Bool) (f : Function ℕ) (more : List (Function ℕ)) → f.cilk ≡ cilk → marked cilk (f ∷ more) ≡ f ∷ marked cilk more
+pub marked_same : (cilk : Bool) (f : Function ℕ) (more : List (Function ℕ)) → f.cilk ≡ cilk → marked cilk (f ∷ more) ≡ f ∷ marked cilk more
 marked_same true f more is = rw is refl
 marked_same false f more is = rw is refl
 
-marked_other : (cilk : Bool) (f : Function ℕ) (more : List (Function ℕ)) → (f.cilk ≡ cilk → ⊥) → marked cilk (f ∷ more) ≡ marked cilk more
+pub marked_other : (cilk : Bool) (f : Function ℕ) (more : List (Function ℕ)) → (f.cilk ≡ cilk → ⊥) → marked cilk (f ∷ more) ≡ marked cilk more
 marked_other cilk f more is = by_mark cilk f.cilk refl is
   where
     by_mark : (c b : Bool) → f.cilk ≡ b → (b ≡ c → ⊥) → marked c (f ∷ more) ≡ marked c more

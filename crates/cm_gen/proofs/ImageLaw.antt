@@ -1,12 +1,12 @@
 -- The part of an image that belongs to functions that aren't marked `cilk` names no build.
-use Rattle.std.proofs.Common.{◌≡◌, ℕ, zero, suc, ◌+◌, ◌*◌, Bool, true, false, if◌then◌else◌, List, [], ◌∷◌, ◌++◌, length, Some, refl, sym, ap, ◌∙◌, arith}
+use Rattle.std.proofs.Common.{◌≡◌, ℕ, zero, suc, ◌+◌, ◌*◌, Bool, true, false, if◌then◌else◌, List, [], ◌∷◌, ◌++◌, length, Some, ◌≤◌, length-append, refl, sym, ap, ◌∙◌, arith}
 use Rattle.std.specs.Prelude.{slice_get}
 use Rattle.cm_syntax.specs.declared.stmt.Function.{Function}
 use Rattle.cm_syntax.specs.declared.stmt.Program.{Program}
 use Rattle.cm_gen.specs.declared.form.Form.{Form}
 use Rattle.cm_gen.specs.declared.form.Form.TheVariants.{Serial}
 use Rattle.cm_gen.specs.Part.{Part, placed, laid, table_word}
-use Rattle.cm_gen.specs.Image.{function_code, marked, functions_code, functions_start, serial_code, serial_end, serial_part, entries_from, entries, table_from, front_of, program_code, image_of}
+use Rattle.cm_gen.specs.Image.{function_code, marked, functions_code, functions_start, serial_code, serial_end, serial_part, entries_from, entries, table_from, front_of, program_code, image_of, HaveRoom}
 
 -- parts laid out one after another
 pub laid-append : (address : ℕ) (x y : List Part) → laid address (x ++ y) ≡ laid address x ++ laid (address + 4 * length x) y
@@ -93,3 +93,12 @@ entry_from form page serial x y (g ∷ fs) j f at is =
 pub serial_entry : (program : Program) (form : Form) (page j : ℕ) (f : Function ℕ) → slice_get program.functions j ≡ Some f → f.cilk ≡ false
     → slice_get (entries program form page) j ≡ slice_get (entries program Serial page) j
 serial_entry program form page j f at is = entry_from form page (functions_start program) _ _ program.functions j f at is
+
+-- an image of few words has its functions within reach
+pub room_of : (program : Program) (form : Form) (page : ℕ) → length program.functions ≤ 256 → length (program_code program form page) ≤ 200000
+    → HaveRoom form page (functions_start program) (serial_end program page) program.functions
+room_of program form page few le =
+    let fs = program.functions in
+    let whole = length-append (functions_code form page (marked false fs)) (functions_code form page (marked true fs)) in
+    let same = ap length (serial_codes form page fs) in
+    (omega (arith, few, le, whole), omega (arith, few, le, whole, same), omega arith, omega arith)

@@ -2,6 +2,7 @@
 use Rattle.std.proofs.Common.{◌≡◌, ℕ, zero, suc, ◌+◌, ◌*◌, ◌<◌, List, [], ◌∷◌, ◌++◌, length, take, refl, sym, ap, ◌∙◌, subst, arith}
 use Rattle.std.specs.Prelude.{slice_get, get_or, Some, None}
 use Rattle.std.proofs.lemmas.List.{take_more, length-take-le}
+use Rattle.cm_isa.specs.Operation.{Operation}
 use Rattle.cm_isa.specs.Address.{AreWordsOf}
 use Rattle.cm_isa.specs.Format.{Row}
 use Rattle.cm_isa.proofs.Image.{AreWordsOf-push}
@@ -37,3 +38,10 @@ pub words_next : (start : ℕ) (code : List Part) (i address word : ℕ) (p : Pa
 words_next start code i address word p words lt at is so_far row =
     subst (AreWordsOf (words ++ word ∷ [])) (sym (laid_next start code i p lt at))
     (AreWordsOf-push words (laid start (take i code)) word (placed (start + 4 * i) p) so_far (subst (λ a. Row word (placed a p)) is row))
+
+-- the words of some instructions, and of others behind them
+pub words_append : (x y : List ℕ) (is js : List Operation) → AreWordsOf x is → AreWordsOf y js → AreWordsOf (x ++ y) (is ++ js)
+words_append [] y [] js h k = k
+words_append [] y (i ∷ is) js h k = absurd h
+words_append (w ∷ x) y [] js h k = absurd h
+words_append (w ∷ x) y (i ∷ is) js h k = (h.0, words_append x y is js h.1 k)

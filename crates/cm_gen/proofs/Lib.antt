@@ -18,3 +18,6 @@ pub mod StatementLaw
 pub mod FunctionLaw
 pub mod FitsLaw
 pub mod LayingLaw
+pub mod SoundFitsLaw
+pub mod WithinLaw
+pub mod MakingLaw

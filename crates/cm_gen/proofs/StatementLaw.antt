@@ -253,7 +253,7 @@ row_size_is : (form : Form) (slots : List Slot) (n : _) (row : Row_of-Stmt ℕ n
 row_size_is form slots n end_of-Stmt = refl
 row_size_is form slots n (more_of-Stmt first more) = ap (λ k. statement_size form slots first + k) (row_size_is form slots _ more)
 
-row_code_is : (form : Form) (slots : List Slot) (behind : ℕ) (n : _) (row : Row_of-Stmt ℕ n)
+pub row_code_is : (form : Form) (slots : List Slot) (behind : ℕ) (n : _) (row : Row_of-Stmt ℕ n)
     → sequence_code form slots behind row ≡ body_code form slots behind (items-the_row-Stmt ℕ n row)
 row_code_is form slots behind n end_of-Stmt = refl
 row_code_is form slots behind n (more_of-Stmt first more) =
@@ -264,7 +264,7 @@ row_fits : (n : _) (row : Row_of-Stmt ℕ n) → SequenceFits row → BodyFits (
 row_fits n end_of-Stmt h = tt
 row_fits n (more_of-Stmt first more) h = (h.0, row_fits _ more h.1)
 
-abbrev row_of : Stmt ℕ → (n : Count) × Row_of-Stmt ℕ n
+abbrev pub row_of : Stmt ℕ → (n : Count) × Row_of-Stmt ℕ n
 row_of (statement.Block' _ row) = (_, row)
 row_of (statement.Split' _ _ _ _ _ row _) = (_, row)
 row_of _ = (_, end_of-Stmt)

@@ -1,6 +1,6 @@
 -- The code of functions and of programs. The image has the end service at address 0, the table of functions, the
 -- functions that aren't marked `cilk`, and those that are, each in the order of the source.
-use Rattle.std.specs.Prelude.{ℕ, ◌+◌, ◌*◌, pos, ◌+ℤ◌, ◌-ℤ◌, Bool, true, false, if◌then◌else◌, Some, List, [], ◌∷◌, ◌++◌, length, map}
+use Rattle.std.specs.Prelude.{◌≡◌, ℕ, ◌+◌, ◌*◌, ◌^◌, ◌%◌, ◌<◌, pos, ◌+ℤ◌, ◌-ℤ◌, Bool, true, false, if◌then◌else◌, Some, List, [], ◌∷◌, ◌++◌, length, map}
 use Rattle.cm_isa.specs.Operation.{Operation}
 use Rattle.cm_isa.specs.declared.convention.TheConstants as reg
 use Rattle.cm_syntax.specs.declared.stmt.Slot.{Slot}
@@ -9,6 +9,7 @@ use Rattle.cm_syntax.specs.declared.stmt.Item as items
 use Rattle.cm_syntax.specs.declared.stmt.Function.{Function}
 use Rattle.cm_syntax.specs.declared.stmt.Program.{Program}
 use Rattle.cm_syntax.specs.Frame.{slot_words, frame_words}
+use Rattle.cm_syntax.specs.Fault.{parameter_slots}
 use Rattle.cm_syntax.specs.Step.{call_bytes_in}
 use Rattle.cm_gen.specs.declared.form.Form.{Form}
 use Rattle.cm_gen.specs.declared.form.Form.TheVariants.{Serial}
@@ -109,6 +110,12 @@ entries_from form page serial cilk (first ∷ more) =
     if first.cilk then cilk ∷ entries_from form page serial (cilk + 4 * length (function_code form page first)) more
     else serial ∷ entries_from form page (serial + 4 * length (function_code form page first)) cilk more
 
+-- The functions end within 2 ^ 20 bytes where the next ones stand at these addresses, of whole words.
+abbrev pub HaveRoom : Form → (page : ℕ) → (serial cilk : ℕ) → List (Function ℕ) → Type 0
+HaveRoom form page serial cilk functions =
+    (serial + 4 * length (functions_code form page (marked false functions)) < 2 ^ 20) × (cilk + 4 * length (functions_code form page (marked true functions)) < 2 ^ 20)
+    × (serial % 4 ≡ 0) × (cilk % 4 ≡ 0)
+
 -- the addresses of all functions
 abbrev pub entries : Program → Form → (page : ℕ) → List ℕ
 entries program form page = entries_from form page (functions_start program) (serial_end program page) program.functions
@@ -116,6 +123,10 @@ entries program form page = entries_from form page (functions_start program) (se
 -- the frame words of all functions
 abbrev pub frames : Program → List ℕ
 frames program = map frame_words program.functions
+
+-- the slots of the parameters of all functions
+abbrev pub parameters : Program → List (List Slot)
+parameters program = map parameter_slots program.functions
 
 -- the table from an address on: a jump to each function
 abbrev pub table_from : (address : ℕ) → (entries : List ℕ) → List Operation

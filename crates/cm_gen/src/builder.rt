@@ -2,7 +2,7 @@
 //! the exit of a function, and over how many words a jump goes.
 #![tactic(auto, using(crate::proofs::BuilderLaw::code_in_put, crate::proofs::BuilderLaw::length_code))]
 
-ghost use Rattle.std.specs.Prelude.{◌≡◌, ◌<◌, ◌≤◌, ◌-◌, ◌++◌, [], ◌∷◌, length, set, slice_get, Some, OnOk};
+ghost use Rattle.std.specs.Prelude.{◌≡◌, ◌<◌, ◌≤◌, ◌-◌, ◌^◌, ◌++◌, [], ◌∷◌, length, set, slice_get, Some, OnOk};
 ghost use Rattle.cm_gen.specs.Builder as builder;
 ghost use Rattle.cm_gen.specs.Part.{plain, call, straight};
 ghost use Rattle.cm_gen.specs.Expression as jump;
@@ -59,6 +59,14 @@ impl CodeBuilder {
         ensures { result ≡ length self.now }
     {
         self.words.len()
+    }
+
+    /// How many words there are, a number to which a few can be added.
+    pub fn size(&self) -> u64
+        ensures value { result ≡ length self.now }
+        ensures small { result < 2 ^ 63 }
+    {
+        self.words.len() as u64
     }
 
     /// The word with so many words before it.

@@ -133,7 +133,7 @@ fn temporaries(value: &Expr<u32>, depth: u32) -> u32
 }
 
 /// The words of instructions, one for each.
-fn assemble_code(alloc: Global, code: &[Instr]) -> Result<List<u32>, Memory>
+pub(crate) fn assemble_code(alloc: Global, code: &[Instr]) -> Result<List<u32>, Memory>
     ensures { IfOk result (λ words. AreWordsOf words code.now) }
 {
     let mut words = List::new(alloc);

@@ -1,6 +1,6 @@
 //! Laws of the definitions of the code. The functions do nothing: their contracts are the laws.
 
-ghost use Rattle.std.specs.Prelude.{◌≡◌, ◌≤◌, ◌+◌, ◌*◌, ◌++◌, ℕ, List, length, false, true, Some, slice_get};
+ghost use Rattle.std.specs.Prelude.{◌≡◌, ◌≤◌, ◌^◌, ◌+◌, ◌*◌, ◌++◌, ℕ, List, length, false, true, Some, slice_get};
 ghost use Rattle.cm_syntax.specs.declared.expr.Expr.{Expr};
 ghost use Rattle.cm_syntax.specs.declared.stmt.Slot.{Slot};
 ghost use Rattle.cm_syntax.specs.declared.stmt.Stmt.{Stmt};
@@ -11,11 +11,13 @@ ghost use Rattle.cm_syntax.specs.Shape.{WhileLoop};
 ghost use Rattle.cm_gen.specs.declared.form.Form.{Form};
 ghost use Rattle.cm_gen.specs.declared.form.Form.TheVariants.{Serial};
 ghost use Rattle.cm_syntax.specs.Frame.{temporaries};
-ghost use Rattle.cm_syntax.specs.Limit.{max_frame_words};
-ghost use Rattle.cm_gen.specs.Fits.{Fits, HasShortCalls};
+ghost use Rattle.cm_syntax.specs.Limit.{max_frame_words, max_functions};
+ghost use Rattle.cm_syntax.specs.Fault.{IsSoundProgram};
+ghost use Rattle.cm_gen.specs.Fits.{Fits, HasShortCalls, FunctionsFit};
 ghost use Rattle.cm_gen.specs.Part.{laid};
+ghost use Rattle.cm_gen.specs.Builder.{AreCallsWithin};
 ghost use Rattle.cm_gen.specs.Statement.{statement_code, statement_size, body_code, body_size, loop_code, turn_code};
-ghost use Rattle.cm_gen.specs.Image.{image_of, front_of, serial_part, serial_end, functions_start, functions_code, marked, entries};
+ghost use Rattle.cm_gen.specs.Image.{image_of, front_of, serial_part, serial_end, functions_start, functions_code, marked, entries, program_code, HaveRoom};
 
 /// The code of a statement has as many words as its size says, wherever it stands.
 pub fn code_sizes()
@@ -50,4 +52,16 @@ pub fn serial_parts_are_alike()
 /// words of arguments.
 pub fn frames_hold_temporaries()
     ensures { (e : Expr ℕ) (d : ℕ) → HasShortCalls e → temporaries e d ≤ max_frame_words → Fits e d }
+{}
+
+/// The code of a sound program can be made: its frames, its calls, its parameters and the indices of what it spawns fit,
+/// its functions are few, and its calls are of small indices. Where its code isn't too long, the table reaches all of it.
+pub fn sound_programs_fit()
+    ensures fit { (program : Program) → IsSoundProgram program → FunctionsFit program.functions }
+    ensures few { (program : Program) → IsSoundProgram program → length program.functions ≤ max_functions }
+    ensures calls { (program : Program) (form : Form) (page : ℕ) → IsSoundProgram program
+        → AreCallsWithin (2 ^ 16) (program_code program form page) }
+    ensures room { (program : Program) (form : Form) (page : ℕ) → IsSoundProgram program
+        → length (program_code program form page) ≤ 200000
+        → HaveRoom form page (functions_start program) (serial_end program page) program.functions }
 {}

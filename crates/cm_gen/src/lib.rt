@@ -10,11 +10,13 @@ mod builder;
 mod evaluation;
 mod first;
 mod form;
+mod front;
 mod function_code;
 mod instruction;
 mod law;
 mod laying;
 mod layout;
+mod making;
 mod pattern;
 mod row;
 mod simple;
@@ -23,7 +25,10 @@ mod straight;
 
 pub use first::make_first;
 pub use form::{Form, Part};
-pub use law::{code_sizes, frames_hold_temporaries, loops_are_alike, serial_parts_are_alike};
+pub use law::{
+    code_sizes, frames_hold_temporaries, loops_are_alike, serial_parts_are_alike,
+    sound_programs_fit,
+};
 pub use row::{
     arrays_and_slices, cilk_functions, expressions, first_image, jumps, numbers_and_places,
     operators, spawns,
