@@ -38,7 +38,7 @@ module _ (Control Stack Destination : Type 0) (step : Control → Stack → Step
   halting_at : (c : Control) (h : Stack) (y : Move) → goes c h ≡ y → Halting (goes c h) → Halting y
   halting_at c h y e = subst (λ z. Halting z) e
 
-  abbrev Alike : Move → Move → Type 0
+  abbrev pub Alike : Move → Move → Type 0
   Alike (silent c h) (silent t g) = (c ≡ t) × (h ≡ g)
   Alike (ticks c h) (ticks t g) = (c ≡ t) × (h ≡ g)
   Alike (prints v c h) (prints w t g) = (v ≡ w) × (c ≡ t) × (h ≡ g)
@@ -49,7 +49,7 @@ module _ (Control Stack Destination : Type 0) (step : Control → Stack → Step
   Alike stuck _ = ⊤
   Alike _ _ = ⊥
 
-  alike : (x y : Move) → x ≡ y → Alike x y
+  pub alike : (x y : Move) → x ≡ y → Alike x y
   alike x y e = subst (λ z. Alike x z) e (itself x)
     where
       itself : (x : Move) → Alike x x
@@ -113,16 +113,16 @@ module _ (Control Stack Destination : Type 0) (step : Control → Stack → Step
   halts_by m y e z = subst (λ q. Halting q) (sym e) z
 
   -- two runs of one call that halt are the same
-  one_halt : {c t l : Control} {h g k : Stack} {o p : List ℤ} {n m : ℕ} → Runs c h o n t g → Halting (goes t g) → Runs c h p m l k → Halting (goes l k) → (o ≡ p) × (n ≡ m) × (l ≡ t) × (k ≡ g)
+  pub one_halt : {c t l : Control} {h g k : Stack} {o p : List ℤ} {n m : ℕ} → Runs c h o n t g → Halting (goes t g) → Runs c h p m l k → Halting (goes l k) → (o ≡ p) × (n ≡ m) × (l ≡ t) × (k ≡ g)
   one_halt {p = p} r z q y =
       let x = prefix r z q in
       let s = halted x.runs y in
       (x.outs ∙ ap (λ a. p ++ a) s.0 ∙ no_more p, (let a = x.sums in let b = s.1 in omega (arith, a, b)), s.2, s.3)
 
-  same_goes : {t l : Control} {g k : Stack} → l ≡ t → k ≡ g → goes l k ≡ goes t g
+  pub same_goes : {t l : Control} {g k : Stack} → l ≡ t → k ≡ g → goes l k ≡ goes t g
   same_goes p q i = goes (p i) (q i)
 
-  too_many : {c t l : Control} {h g k : Stack} {o p : List ℤ} {n m limit : ℕ} → Runs c h o n t g → Halting (goes t g) → n ≤ limit → Runs c h p m l k → limit < m → ⊥
+  pub too_many : {c t l : Control} {h g k : Stack} {o p : List ℤ} {n m limit : ℕ} → Runs c h o n t g → Halting (goes t g) → n ≤ limit → Runs c h p m l k → limit < m → ⊥
   too_many r z l q s = let x = (prefix r z q).sums in omega (arith, x, l, s)
 
   pub one_end : (c : Control) (h : Stack) (limit : ℕ) (d e : End) (v w : Stack) → Ends c h limit d v → Ends c h limit e w → d ≡ e

@@ -13,10 +13,10 @@ module _ (Control Stack Destination : Type 0) (Joins : Stack → Stack → Stack
   abbrev Move : Type 0
   Move = Step Control Stack Destination
 
-  abbrev serially : Control → Stack → Move
+  abbrev pub serially : Control → Stack → Move
   serially = serial_step Control Stack Destination step inside
 
-  abbrev Runs : Control → Stack → List ℤ → ℕ → Control → Stack → Type 0
+  abbrev pub Runs : Control → Stack → List ℤ → ℕ → Control → Stack → Type 0
   Runs = Comes Control Stack Destination step inside
 
   abbrev Log : Type 0
@@ -111,14 +111,14 @@ module _ (Control Stack Destination : Type 0) (Joins : Stack → Stack → Stack
   count : {c t : Control} {h g : Stack} {out : List ℤ} {n m : ℕ} → n ≡ m → Runs c h out n t g → Runs c h out m t g
   count {c = c} {t = t} {h = h} {g = g} {out = out} e r = subst (λ z. Runs c h out z t g) e r
 
-  chain : {c t l : Control} {h g k : Stack} {o p : List ℤ} {n m : ℕ} → Runs c h o n t g → Runs t g p m l k → Runs c h (o ++ p) (n + m) l k
+  pub chain : {c t l : Control} {h g k : Stack} {o p : List ℤ} {n m : ℕ} → Runs c h o n t g → Runs t g p m l k → Runs c h (o ++ p) (n + m) l k
   chain {m = m} here r = count (omega arith) r
   chain (quiet e q) r = quiet e (chain q r)
   chain (tick e q) r = count (omega arith) (tick e (chain q r))
   chain (show e q) r = show e (chain q r)
 
   -- one silent step more
-  goes_on : {c t l : Control} {h g k : Stack} {o : List ℤ} {n : ℕ} → Runs c h o n t g → serially t g ≡ silent l k → Runs c h o n l k
+  pub goes_on : {c t l : Control} {h g k : Stack} {o : List ℤ} {n : ℕ} → Runs c h o n t g → serially t g ≡ silent l k → Runs c h o n l k
   goes_on here s = quiet s here
   goes_on (quiet e q) s = quiet e (goes_on q s)
   goes_on (tick e q) s = tick e (goes_on q s)
@@ -137,7 +137,7 @@ module _ (Control Stack Destination : Type 0) (Joins : Stack → Stack → Stack
     Owed b n (child d at x false q (told Spent w) ∷ log) o = ⊥
     Owed b n (child d at x false q awaited ∷ log) o = ⊥
 
-    owed_under : (b n : ℕ) (log : Log) (o : Stack) → Owed b n log o → Under n o
+    pub owed_under : (b n : ℕ) (log : Log) (o : Stack) → Owed b n log o → Under n o
     owed_under b n [] o e = subst (λ z. Under n z) (sym e) (under_empty n)
     owed_under b n (printed v ∷ log) o e = owed_under b n log o e
     owed_under b n (child d at x true q r ∷ log) o h = owed_under b n log o h
@@ -168,7 +168,7 @@ module _ (Control Stack Destination : Type 0) (Joins : Stack → Stack → Stack
     abbrev Meets : ℕ → Log → Stack → Log → Stack → Type 0
     Meets = Collects Control Stack Destination Joins settle depth step
 
-    joined_sofar : {d : ℕ} {log more : Log} {h g : Stack} → Meets d log h more g → log_sum Control Stack Destination more ≡ log_sum Control Stack Destination log
+    pub joined_sofar : {d : ℕ} {log more : Log} {h g : Stack} → Meets d log h more g → log_sum Control Stack Destination more ≡ log_sum Control Stack Destination log
     joined_sofar none = refl
     joined_sofar (past {v = v} j) = ap (λ z. add_number z v) (joined_sofar j)
     joined_sofar (before {o = o} {r = r} j) = ap (λ z. add_answer Control Stack Destination z o r) (joined_sofar j)
@@ -231,7 +231,7 @@ module _ (Control Stack Destination : Type 0) (Joins : Stack → Stack → Stack
         by_child_ (told e w) (trapped out t k) h = tt
         by_child_ (told e w) spent h = tt
 
-    abbrev Falls : Sum → Type 0
+    abbrev pub Falls : Sum → Type 0
     Falls (going out n) = ⊥
     Falls _ = ⊤
 
@@ -244,7 +244,7 @@ module _ (Control Stack Destination : Type 0) (Joins : Stack → Stack → Stack
     falls_on spent h (child d o x j q awaited) = tt
     falls_on spent h (child d o x j q (told e w)) = tt
 
-    fallen : {log : Log} → Fallen Control Stack Destination log → Falls (log_sum Control Stack Destination log)
+    pub fallen : {log : Log} → Fallen Control Stack Destination log → Falls (log_sum Control Stack Destination log)
     fallen (by_trap {log = log} {o = o} {m = m} {out = out} {k = k}) = by (log_sum Control Stack Destination log)
       where
         by : (z : Sum) → Falls (add_end z o (Trapped out k m))
@@ -269,10 +269,10 @@ module _ (Control Stack Destination : Type 0) (Joins : Stack → Stack → Stack
     Along b c (ends v) y = y ≡ ends v
     Along b c _ y = ⊤
 
-    abbrev elided : Stack → Move → Move
+    abbrev pub elided : Stack → Move → Move
     elided = serial Control Stack Destination step inside
 
-    along : (c : Control) (h b u : Stack) → Good c h → Joins h b u → Under (base c) b → Along b c (serially c h) (serially c u)
+    pub along : (c : Control) (h b u : Stack) → Good c h → Joins h b u → Under (base c) b → Along b c (serially c h) (serially c u)
     along c h b u w s d = by (step c h) (step c u) (moves c h w) (beside c h b u s (under_more (base_room c) d))
       where
         higher : (t : Control) → base t ≡ base c → Under (room t) b
@@ -294,7 +294,7 @@ module _ (Control Stack Destination : Type 0) (Joins : Stack → Stack → Stack
     good_at : (c : Control) (h : Stack) (x : Move) → serially c h ≡ x → Good c h → Keeps Good x
     good_at c h x e w = subst (λ q. Keeps Good q) e (good_goes c h w)
 
-    step_good : (c : Control) (h : Stack) (x : Move) → step c h ≡ x → Good c h → Keeps Good x
+    pub step_good : (c : Control) (h : Stack) (x : Move) → step c h ≡ x → Good c h → Keeps Good x
     step_good c h x e w = subst (λ q. Keeps Good q) e (good_step c h w)
 
     above_at : (x : Destination) (k c : Control) (h : Stack) (y : Move) → serially c h ≡ y → Above x k c h → Keeps (Above x k) y
@@ -321,10 +321,10 @@ module _ (Control Stack Destination : Type 0) (Joins : Stack → Stack → Stack
         let q = framed r b a.0 (good_at c h _ e w) a.2 (subst (λ z. Under z b) (sym a.3) d) in
         (q.0, show a.1 q.1, q.2, q.3 ∙ a.3, q.4)
 
-    within_at : (x : Destination) (k c : Control) (h : Stack) (y : Move) → serially c h ≡ y → Within x k y (serially (inside c x k) h)
+    pub within_at : (x : Destination) (k c : Control) (h : Stack) (y : Move) → serially c h ≡ y → Within x k y (serially (inside c x k) h)
     within_at x k c h y e = subst (λ q. Within x k q (serially (inside c x k) h)) e (within x k c h)
 
-    nested : {c t : Control} {h g : Stack} {out : List ℤ} {n : ℕ} (x : Destination) (k : Control) → Runs c h out n t g → Runs (inside c x k) h out n (inside t x k) g
+    pub nested : {c t : Control} {h g : Stack} {out : List ℤ} {n : ℕ} (x : Destination) (k : Control) → Runs c h out n t g → Runs (inside c x k) h out n (inside t x k) g
     nested x k here = here
     nested {c = c} {h = h} x k (quiet e r) = quiet (within_at x k c h _ e) (nested x k r)
     nested {c = c} {h = h} x k (tick e r) = tick (within_at x k c h _ e) (nested x k r)
@@ -337,7 +337,7 @@ module _ (Control Stack Destination : Type 0) (Joins : Stack → Stack → Stack
     goes_tick (tick e q) s = tick e (goes_tick q s)
     goes_tick (show e q) s = show e (goes_tick q s)
 
-    abbrev Sees : Control → Stack → ℕ → End → Stack → Type 0
+    abbrev pub Sees : Control → Stack → ℕ → End → Stack → Type 0
     Sees = EndsAs Control Stack Destination step inside
 
     abbrev Over : Control → Stack → ℕ → Type 0
@@ -357,10 +357,10 @@ module _ (Control Stack Destination : Type 0) (Joins : Stack → Stack → Stack
     abbrev so : Log → Sum
     so = log_sum Control Stack Destination
 
-    moves_at : (c : Control) (h : Stack) (x : Move) → step c h ≡ x → Good c h → Moves base floor Under c h x
+    pub moves_at : (c : Control) (h : Stack) (x : Move) → step c h ≡ x → Good c h → Moves base floor Under c h x
     moves_at c h x e w = subst (λ q. Moves base floor Under c h q) e (moves c h w)
 
-    beside_at : (c : Control) (h o u : Stack) (x : Move) → step c h ≡ x → Joins h o u → Under (floor c) o → Beside room Under o x (step c u)
+    pub beside_at : (c : Control) (h o u : Stack) (x : Move) → step c h ≡ x → Joins h o u → Under (floor c) o → Beside room Under o x (step c u)
     beside_at c h o u x e s d = subst (λ q. Beside room Under o q (step c u)) e (beside c h o u s (under_more (floor_room c) d))
 
     abbrev Halts : (start own : ℕ) → Control → Stack → Log → Own → Type 0
@@ -373,7 +373,7 @@ module _ (Control Stack Destination : Type 0) (Joins : Stack → Stack → Stack
     value_of (by_return e) = e
 
     -- what `Decide` says is so
-    decided : (c0 : Control) (h0 : Stack) {start own : ℕ} {c : Control} {h : Stack} {log : Log} {o : Own} {e : End} (z : Sum) → so log ≡ z → Follows c0 h0 start own c h log z → Halts start own c h log o → Decides start own z o e → Sees c0 h0 start e h
+    pub decided : (c0 : Control) (h0 : Stack) {start own : ℕ} {c : Control} {h : Stack} {log : Log} {o : Own} {e : End} (z : Sum) → so log ≡ z → Follows c0 h0 start own c h log z → Halts start own c h log o → Decides start own z o e → Sees c0 h0 start e h
     decided c0 h0 {start = start} {own = own} {c = c} {h = h} {log = log} _ is f s (all_done {out = out} {n = n} {v = v} cap) = by cap
       where
         m : Under (base c) h × (floor c ≤ base c)
@@ -423,7 +423,7 @@ module _ (Control Stack Destination : Type 0) (Joins : Stack → Stack → Stack
 
     -- ---- each rule keeps the shadow
     module _ (c0 : Control) (h0 : Stack) where
-      follows_silent : (start own : ℕ) (log : Log) {c t : Control} {h g : Stack} → step c h ≡ silent t g → (z : Sum) → Follows c0 h0 start own c h log z → Follows c0 h0 start own t g log z
+      pub follows_silent : (start own : ℕ) (log : Log) {c t : Control} {h g : Stack} → step c h ≡ silent t g → (z : Sum) → Follows c0 h0 start own c h log z → Follows c0 h0 start own t g log z
       follows_silent start own log {c = c} {t = t} {h = h} e (going out n) x =
           let m = moves_at c h _ e x.6 in
           let b = beside_at c h x.0 x.1 _ e x.4 (owed_under (base c0) (floor c) log x.0 x.3) (under_more (omega (arith, m.0, floor_room t)) (owed_under (base c0) (floor c) log x.0 x.3)) in
@@ -431,7 +431,7 @@ module _ (Control Stack Destination : Type 0) (Joins : Stack → Stack → Stack
       follows_silent start own log e (trapped out k n) x = x
       follows_silent start own log e spent x = x
 
-      follows_tick : (start own : ℕ) (log : Log) {c t : Control} {h g : Stack} → step c h ≡ ticks t g → (z : Sum) → Follows c0 h0 start own c h log z → Follows c0 h0 start (suc own) t g log z
+      pub follows_tick : (start own : ℕ) (log : Log) {c t : Control} {h g : Stack} → step c h ≡ ticks t g → (z : Sum) → Follows c0 h0 start own c h log z → Follows c0 h0 start (suc own) t g log z
       follows_tick start own log {c = c} {t = t} {h = h} e (going out n) x =
           let m = moves_at c h _ e x.6 in
           let b = beside_at c h x.0 x.1 _ e x.4 (owed_under (base c0) (floor c) log x.0 x.3) (under_more (omega (arith, m.0, floor_room t)) (owed_under (base c0) (floor c) log x.0 x.3)) in
@@ -439,7 +439,7 @@ module _ (Control Stack Destination : Type 0) (Joins : Stack → Stack → Stack
       follows_tick start own log e (trapped out k n) x = x
       follows_tick start own log e spent x = x
 
-      follows_print : (start own : ℕ) (log : Log) {v : ℤ} {c t : Control} {h g : Stack} → step c h ≡ prints v t g → (z : Sum) → Follows c0 h0 start own c h log z → Follows c0 h0 start own t g (printed v ∷ log) (add_number z v)
+      pub follows_print : (start own : ℕ) (log : Log) {v : ℤ} {c t : Control} {h g : Stack} → step c h ≡ prints v t g → (z : Sum) → Follows c0 h0 start own c h log z → Follows c0 h0 start own t g (printed v ∷ log) (add_number z v)
       follows_print start own log {c = c} {t = t} {h = h} e (going out n) x =
           let m = moves_at c h _ e x.6 in
           let b = beside_at c h x.0 x.1 _ e x.4 (owed_under (base c0) (floor c) log x.0 x.3) (under_more (omega (arith, m.0, floor_room t)) (owed_under (base c0) (floor c) log x.0 x.3)) in
@@ -447,7 +447,7 @@ module _ (Control Stack Destination : Type 0) (Joins : Stack → Stack → Stack
       follows_print start own log e (trapped out k n) x = x
       follows_print start own log e spent x = x
 
-      follows_join : (start own : ℕ) {c t : Control} {h g : Stack} {log more : Log} → step c h ≡ syncs t → Meets (depth c) log h more g → (z : Sum) → Follows c0 h0 start own c h log z → Follows c0 h0 start own t g more z
+      pub follows_join : (start own : ℕ) {c t : Control} {h g : Stack} {log more : Log} → step c h ≡ syncs t → Meets (depth c) log h more g → (z : Sum) → Follows c0 h0 start own c h log z → Follows c0 h0 start own t g more z
       follows_join start own {c = c} {t = t} {h = h} {log = log} {more = more} e j (going out n) x =
           let m = moves_at c h _ e x.6 in
           let b = beside_at c h x.0 x.1 _ e x.4 (owed_under (base c0) (floor c) log x.0 x.3) in
@@ -456,7 +456,7 @@ module _ (Control Stack Destination : Type 0) (Joins : Stack → Stack → Stack
       follows_join start own e j (trapped out k n) x = x
       follows_join start own e j spent x = x
 
-      follows_part : (start own : ℕ) (log : Log) (answer : Stack) {m : ℕ} {c t call : Control} {h g lent : Stack} {x : Destination} → step c h ≡ spawns call lent x t g → Counts Control Stack Destination log m
+      pub follows_part : (start own : ℕ) (log : Log) (answer : Stack) {m : ℕ} {c t call : Control} {h g lent : Stack} {x : Destination} → step c h ≡ spawns call lent x t g → Counts Control Stack Destination log m
           → (z : Sum) → so log ≡ z → Follows c0 h0 start own c h log z → (a : End) → (Good call lent → Sees call lent (start - (own + m)) a answer)
           → Follows c0 h0 start own t g (child (depth c) own x false (record { start = start - (own + m); call = call; lent = lent }) (told a answer) ∷ log) (add_end z own a)
       follows_part start own log answer {m = m} {c = c} {t = t} {call = call} {h = h} {g = g} {lent = lent} {x = x} e k z is f a says = by z is f a says
@@ -534,7 +534,7 @@ module _ (Control Stack Destination : Type 0) (Joins : Stack → Stack → Stack
     given_says c h k w start (Trapped out k_ n) g s = s
     given_says c h k w start Spent g s = s
 
-    given_itself : (e : End) (h : Stack) → Given Control Stack Destination e h h
+    pub given_itself : (e : End) (h : Stack) → Given Control Stack Destination e h h
     given_itself (Done out v n) h = refl
     given_itself (Trapped out k n) h = tt
     given_itself Spent h = tt
@@ -567,7 +567,7 @@ module _ (Control Stack Destination : Type 0) (Joins : Stack → Stack → Stack
     fills_itself (child d o x j q awaited ∷ log) t = absurd t
     fills_itself (child d o x j q (told e w) ∷ log) t = kept_ (fills_itself log t)
 
-    counts_filled : {log more : Log} {m : ℕ} → Fills log more → Counts Control Stack Destination log m → Counts Control Stack Destination more m
+    pub counts_filled : {log more : Log} {m : ℕ} → Fills log more → Counts Control Stack Destination log m → Counts Control Stack Destination more m
     counts_filled empty_ none = none
     counts_filled (number_ f) (past c) = past (counts_filled f c)
     counts_filled (kept_ f) (counted c) = counted (counts_filled f c)
@@ -601,7 +601,7 @@ module _ (Control Stack Destination : Type 0) (Joins : Stack → Stack → Stack
     nothing_filled : {log : Log} → Fills [] log → [] ≡ log
     nothing_filled empty_ = refl
 
-    of_ask : {q : Ask Control Stack Destination} {e : End} {w : Stack} → (log : Log) × Fills [] log × Ends q.start 0 q.call q.lent log e w → Ends q.start 0 q.call q.lent [] e w
+    pub of_ask : {q : Ask Control Stack Destination} {e : End} {w : Stack} → (log : Log) × Fills [] log × Ends q.start 0 q.call q.lent log e w → Ends q.start 0 q.call q.lent [] e w
     of_ask {q = q} {e = e} {w = w} r = subst (λ z. Ends q.start 0 q.call q.lent z e w) (sym (nothing_filled r.1)) r.2
 
     after_number : {start own : ℕ} {v : ℤ} {c t : Control} {h g w : Stack} {log late : Log} {e : End} → step c h ≡ prints v t g → Fills (printed v ∷ log) late → Ends start own t g late e w → (more : Log) × Fills log more × Ends start own c h more e w
@@ -631,7 +631,7 @@ module _ (Control Stack Destination : Type 0) (Joins : Stack → Stack → Stack
       unheard (deeper h) (filled_ e r) = filled_ e (unheard h r)
 
     -- a call's own beginning
-    begins : (q : Ask Control Stack Destination) → Good q.call q.lent → Follows q.call q.lent q.start 0 q.call q.lent [] (going [] 0)
+    pub begins : (q : Ask Control Stack Destination) → Good q.call q.lent → Follows q.call q.lent q.start 0 q.call q.lent [] (going [] 0)
     begins q w = (empty, q.lent, count (omega arith) here, refl, nothing q.lent, refl, w)
 
     -- each end of a call's piece is the end of the call's elision

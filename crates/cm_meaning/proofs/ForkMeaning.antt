@@ -20,22 +20,22 @@ use Rattle.cm_meaning.proofs.AboveLaw.{IsAbove, IsLevel}
 use Rattle.cm_meaning.proofs.ReturnLaw.{above_goes, returns_to}
 use Rattle.cm_meaning.proofs.ForkLaw as fork
 
-less : (a b : ℕ) → a - b ≤ a
+pub less : (a b : ℕ) → a - b ≤ a
 less a b = omega arith
 
-floor_low : (n : ℕ) (k : List Item) → floor_of n k ≤ n
+pub floor_low : (n : ℕ) (k : List Item) → floor_of n k ≤ n
 floor_low n [] = omega arith
 floor_low n (end ∷ k) = less n 1
 floor_low n (_ ∷ k) = omega arith
 
 module _ (program : Program) (page : ℕ) (input : List ℤ) where
-  abbrev stepped : Control → Stack → Move
+  abbrev pub stepped : Control → Stack → Move
   stepped = step program page input
 
-  abbrev goes : Control → Stack → Move
+  abbrev pub goes : Control → Stack → Move
   goes = serial_step program page input
 
-  beside_law : (b : Stack) (x y : Move) → IsBeside b x y → fork.Beside Control Stack Destination StackSum settle depth stepped inside frame_count IsUnder b x y
+  pub beside_law : (b : Stack) (x y : Move) → IsBeside b x y → fork.Beside Control Stack Destination StackSum settle depth stepped inside frame_count IsUnder b x y
   beside_law b (silent t g) y f = f
   beside_law b (ticks t g) y f = f
   beside_law b (prints v t g) y f = f
@@ -45,7 +45,7 @@ module _ (program : Program) (page : ℕ) (input : List ℤ) where
   beside_law b (ends v) y f = f
   beside_law b stuck y f = f
 
-  inside_law : (x : Destination) (k : Control) (m : Option ℤ → Move) (y w : Move) → IsInside x k m y w → fork.Within Control Stack Destination StackSum settle depth stepped inside x k y w
+  pub inside_law : (x : Destination) (k : Control) (m : Option ℤ → Move) (y w : Move) → IsInside x k m y w → fork.Within Control Stack Destination StackSum settle depth stepped inside x k y w
   inside_law x k m (silent t g) w f = f
   inside_law x k m (ticks t g) w f = f
   inside_law x k m (prints v t g) w f = f
@@ -55,7 +55,7 @@ module _ (program : Program) (page : ℕ) (input : List ℤ) where
   inside_law x k m (ends v) w f = tt
   inside_law x k m stuck w f = f
 
-  keeps_law : (P : Control → Stack → Type 0) (x : Move) → Keeps P x → fork.Keeps Control Stack Destination StackSum settle depth stepped inside P x
+  pub keeps_law : (P : Control → Stack → Type 0) (x : Move) → Keeps P x → fork.Keeps Control Stack Destination StackSum settle depth stepped inside P x
   keeps_law P (silent t g) f = f
   keeps_law P (ticks t g) f = f
   keeps_law P (prints v t g) f = f
@@ -65,7 +65,7 @@ module _ (program : Program) (page : ℕ) (input : List ℤ) where
   keeps_law P (ends v) f = f
   keeps_law P stuck f = f
 
-  moves_law : (c : Control) (h : Stack) (x : Move) → Moves c h x → fork.Moves Control Stack Destination StackSum settle depth stepped inside base floor IsUnder c h x
+  pub moves_law : (c : Control) (h : Stack) (x : Move) → Moves c h x → fork.Moves Control Stack Destination StackSum settle depth stepped inside base floor IsUnder c h x
   moves_law c h (silent t g) f = f
   moves_law c h (ticks t g) f = f
   moves_law c h (prints v t g) f = f
@@ -75,20 +75,20 @@ module _ (program : Program) (page : ℕ) (input : List ℤ) where
   moves_law c h (ends v) f = f
   moves_law c h stuck f = f
 
-  synced : {c t : Control} {h g : Stack} → IsSettled c h → stepped c h ≡ syncs t → IsSettled c g → IsSettled t g
+  pub synced : {c t : Control} {h g : Stack} → IsSettled c h → stepped c h ≡ syncs t → IsSettled c g → IsSettled t g
   synced {c = c} {h = h} {g = g} w e u = subst (λ q. Met program page input c q) e (good_law program page input c h w).met g u.below
 
-  running : {c t : Control} {k : Stack} → IsSettled c k → stepped c k ≡ syncs t → suc (depth c) ≡ length c.calls
+  pub running : {c t : Control} {k : Stack} → IsSettled c k → stepped c k ≡ syncs t → suc (depth c) ≡ length c.calls
   running {c = c} {k = k} w e = (subst (λ q. Moves c k q) e (good_law program page input c k w).moves).3
 
-  added : {c t : Control} {h w g : Stack} (k : Stack) → IsSettled c k → stepped c k ≡ syncs t → IsSettled c h → IsUnder (suc (depth c)) w → StackSum h w g → IsSettled c g
+  pub added : {c t : Control} {h w g : Stack} (k : Stack) → IsSettled c k → stepped c k ≡ syncs t → IsSettled c h → IsUnder (suc (depth c)) w → StackSum h w g → IsSettled c g
   added {w = w} k u e s low o = record { shape = s.shape; enough = s.enough; below = under_sum o s.below (subst (λ q. IsUnder q w) (running u e) low) }
 
-  spawned_above : {c t call : Control} {h g lent : Stack} {x : Destination} → IsSettled c h → stepped c h ≡ spawns call lent x t g → IsAbove program page input x t call lent
+  pub spawned_above : {c t call : Control} {h g lent : Stack} {x : Destination} → IsSettled c h → stepped c h ≡ spawns call lent x t g → IsAbove program page input x t call lent
   spawned_above {c = c} {t = t} {call = call} {h = h} {lent = lent} {x = x} w e = let p = subst IsSpawned e (good_law program page input c h w).parts in
       record { idle_ = p.0; level = subst (λ q. IsLevel program page input x t q call.calls call.account) (sym p.1) (p.2, p.3); holds_ = p.4 }
 
-  laws : fork.Laws Control Stack Destination StackSum settle depth stepped inside
+  unfoldable pub laws : fork.Laws Control Stack Destination StackSum settle depth stepped inside
   laws = record {
     empty = empty_stack;
     Under = IsUnder;

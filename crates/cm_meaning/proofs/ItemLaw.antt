@@ -43,11 +43,11 @@ can_write : (o : Option Op) (c : Cell ℤ) → IsUpdate o → IsPresent c → Ca
 can_write None c u p = present_held c p
 can_write (Some o) c u p = (u, p)
 
-index_within : (v : ℤ) (n : ℕ) → is_index v n ≡ true → natural v < n
+pub index_within : (v : ℤ) (n : ℕ) → is_index v n ≡ true → natural v < n
 index_within (pos m) n e = ltb-true m n e
 index_within (negsuc m) n e = cc e
 
-split_within : (v : ℤ) (n : ℕ) → is_split v n ≡ true → natural v ≤ n
+pub split_within : (v : ℤ) (n : ℕ) → is_split v n ≡ true → natural v ≤ n
 split_within (pos m) n e = leb-true m n e
 split_within (negsuc m) n e = cc e
 

@@ -57,7 +57,7 @@ joined_count [] = 0
 joined_count (child d o x true q (told (Done out v m) w) ∷ log) = joined_count log + m
 joined_count (n ∷ log) = joined_count log
 
-counts_joined : (log : Log) → is_fine log ≡ true → Counts Control Stack Destination log (joined_count log)
+pub counts_joined : (log : Log) → is_fine log ≡ true → Counts Control Stack Destination log (joined_count log)
 counts_joined [] e = none
 counts_joined (printed v ∷ log) e = past (counts_joined log e)
 counts_joined (child d o x true q (told (Done out v m) w) ∷ log) e = counted (counts_joined log e)

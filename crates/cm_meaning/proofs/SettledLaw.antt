@@ -78,7 +78,7 @@ floor_is n [] i = omega arith
 floor_is n (end ∷ k) i = absurd i
 floor_is n (_ ∷ k) i = omega arith
 
-some_act : (k : List Item) → IsInner k → 1 ≤ end_count k
+pub some_act : (k : List Item) → IsInner k → 1 ≤ end_count k
 some_act [] i = absurd i
 some_act (join ∷ []) i = absurd i
 some_act (join ∷ end ∷ k) i = omega arith
@@ -96,7 +96,7 @@ lent_held h d s ws q e = q (sym lent ∙ e)
     lent : (lent_stack h (Some (record { depth = d; slot = s })) ws).words d s 0 ≡ h.words d s 0
     lent = let x : (d == d) ≡ true = same_number d in let y : (s == s) ≡ true = same_number s in rw (x, y) refl
 
-depth_below : (calls : List ℕ) → 1 ≤ length calls → suc (top calls) ≡ length calls
+pub depth_below : (calls : List ℕ) → 1 ≤ length calls → suc (top calls) ≡ length calls
 depth_below [] l = omega (arith, l)
 depth_below (f ∷ calls) l = refl
 

@@ -398,7 +398,7 @@ in_numbers (suc n) x c = elim (contains_cases n x (numbers_below n) c) [
   | inr d ↦ let l = in_numbers n x d in omega (arith, l)
 ]
 
-slot_left : (xs ys : List Slot) (x : ℕ) → x < length xs → slice_get (xs ++ ys) x ≡ slice_get xs x
+pub slot_left : (xs ys : List Slot) (x : ℕ) → x < length xs → slice_get (xs ++ ys) x ≡ slice_get xs x
 slot_left [] ys x l = absurd (no_less x l)
 slot_left (z ∷ xs) ys zero l = refl
 slot_left (z ∷ xs) ys (suc x) l = slot_left xs ys x (omega (arith, l))

@@ -52,10 +52,10 @@ module _ (here : Setting) where
     pub at : length before ≡ scope.next_slot
     pub parts : slots ≡ before ++ coming
 
-  next_is : (set : List ℕ) (scope : Scope) (kind : Slot) (coming : List Slot) → Fits set scope (kind ∷ coming) → slice_get slots scope.next_slot ≡ Some kind
+  pub next_is : (set : List ℕ) (scope : Scope) (kind : Slot) (coming : List Slot) → Fits set scope (kind ∷ coming) → slice_get slots scope.next_slot ≡ Some kind
   next_is set scope kind coming h = ap (λ s. slice_get s scope.next_slot) h.parts ∙ (ap (slice_get (h.before ++ kind ∷ coming)) (sym h.at) ∙ get_behind h.before kind coming)
 
-  declared_fits : (set : List ℕ) (scope : Scope) (x : Mark Name) (kind : Slot) (coming : List Slot) → Fits set scope (kind ∷ coming) → Fits (scope.next_slot ∷ set) (declare_name scope x kind) coming
+  pub declared_fits : (set : List ℕ) (scope : Scope) (x : Mark Name) (kind : Slot) (coming : List Slot) → Fits set scope (kind ∷ coming) → Fits (scope.next_slot ∷ set) (declare_name scope x kind) coming
   declared_fits set scope x kind coming h = record {
     visible = ((Contains-first set scope.next_slot, next_is set scope kind coming h), more_set here set scope.next_slot scope.visible h.visible);
     before = h.before ++ kind ∷ [];
@@ -63,11 +63,11 @@ module _ (here : Setting) where
     parts = h.parts ∙ sym (append_assoc h.before (kind ∷ []) coming);
   }
 
-  within_fits : (set : List ℕ) (scope : Scope) (coming : List Slot) → Fits set scope coming → Fits set (inner_scope scope) coming
+  pub within_fits : (set : List ℕ) (scope : Scope) (coming : List Slot) → Fits set scope coming → Fits set (inner_scope scope) coming
   within_fits set scope coming h = record { visible = h.visible; before = h.before; at = h.at; parts = h.parts }
 
   -- behind slots of what comes first, which may have a scope of its own
-  past_fits : (set : List ℕ) (scope own : Scope) (s : Stmt Name) (coming : List Slot) → Fits set scope (statement_slots own s ++ coming) → Fits set (reserve_slots scope s) coming
+  pub past_fits : (set : List ℕ) (scope own : Scope) (s : Stmt Name) (coming : List Slot) → Fits set scope (statement_slots own s ++ coming) → Fits set (reserve_slots scope s) coming
   past_fits set scope own s coming h = record {
     visible = h.visible;
     before = h.before ++ statement_slots own s;
@@ -81,10 +81,10 @@ module _ (here : Setting) where
   items_fit set scope (item ∷ more) coming h =
       items_fit (scope.next_slot ∷ set) (declare_name scope item.name item.slot) more coming (declared_fits set scope item.name item.slot (map (λ item. item.slot) more ++ coming) h)
 
-  regrouped : (set : List ℕ) (scope : Scope) (a b coming : List Slot) → Fits set scope ((a ++ b) ++ coming) → Fits set scope (a ++ (b ++ coming))
+  pub regrouped : (set : List ℕ) (scope : Scope) (a b coming : List Slot) → Fits set scope ((a ++ b) ++ coming) → Fits set scope (a ++ (b ++ coming))
   regrouped set scope a b coming h = record { visible = h.visible; before = h.before; at = h.at; parts = h.parts ∙ ap (λ s. h.before ++ s) (append_assoc a b coming) }
 
-  after_fits : (set : List ℕ) (scope : Scope) (s : Stmt Name) (coming : List Slot) → Fits set scope (statement_slots scope s ++ coming) →
+  pub after_fits : (set : List ℕ) (scope : Scope) (s : Stmt Name) (coming : List Slot) → Fits set scope (statement_slots scope s ++ coming) →
       Fits (set_behind set (resolve_statement functions scope s)) (scope_after scope s) coming
   after_fits set scope (statement.Declare items) coming h = items_fit set scope items coming h
   after_fits set scope (IfAlone test chosen) coming h = past_fits set scope scope (IfAlone test chosen) coming h
@@ -94,7 +94,7 @@ module _ (here : Setting) where
   after_fits set scope s coming h = past_fits set scope scope s coming h
 
   -- the parts of a split
-  parts_fit : (set : List ℕ) (scope : Scope) (whole left right : Mark Name) (coming : List Slot) →
+  pub parts_fit : (set : List ℕ) (scope : Scope) (whole left right : Mark Name) (coming : List Slot) →
       Fits set scope (part_slot (lookup scope.visible whole.name) ∷ part_slot (lookup scope.visible whole.name) ∷ coming) →
       Fits ((scope.next_slot + 1) ∷ scope.next_slot ∷ set) (split_scope scope whole left right) coming
   parts_fit set scope whole left right coming h =
@@ -111,7 +111,7 @@ module _ (here : Setting) where
   block_typed n set (more_of-Stmt first more) h = (h.0, block_typed _ (set_behind set first) more h.1)
 
   -- the statements of a block or a split, as the row that it holds
-  abbrev row_of_block : Stmt ℕ → (n : _) × Row_of-Stmt ℕ n
+  abbrev pub row_of_block : Stmt ℕ → (n : _) × Row_of-Stmt ℕ n
   row_of_block (statement.Block' _ row) = (_, row)
   row_of_block (statement.Split' _ _ _ _ _ row _) = (_, row)
   row_of_block _ = (_, end_of-Stmt)

@@ -27,7 +27,7 @@ Each-among P [] x h k lt is = absurd (omega (arith, lt))
 Each-among P (y ∷ xs) x h zero lt is = subst P is h.0
 Each-among P (y ∷ xs) x h (suc k) lt is = Each-among P xs x h.1 k (omega (arith, lt)) is
 
-Contains-at : {A : Type 0} (xs : List A) (i : ℕ) (x : A) → slice_get xs i ≡ Some x → Contains xs x
+pub Contains-at : {A : Type 0} (xs : List A) (i : ℕ) (x : A) → slice_get xs i ≡ Some x → Contains xs x
 Contains-at xs i x e = (i, slice_get_within xs i x e, get_or_from_slice_get xs i x x e)
 
 -- what is found stands at its place, and passes the test
@@ -63,7 +63,7 @@ parameters_fit (item ∷ more) h =
     (h item (0, omega arith, refl), parameters_fit more (λ x i. h x (Contains-append_right (item ∷ []) more x i)))
 
 module _ (functions : List (Function Name)) where
-  slots_same : (scope : Scope) (items : List (Item Name)) → map (λ item. item.slot) (resolve_items functions scope items) ≡ map (λ item. item.slot) items
+  pub slots_same : (scope : Scope) (items : List (Item Name)) → map (λ item. item.slot) (resolve_items functions scope items) ≡ map (λ item. item.slot) items
   slots_same scope [] = refl
   slots_same scope (item ∷ more) = ap (λ s. item.slot ∷ s) (slots_same (declare_name scope item.name item.slot) more)
 
@@ -82,7 +82,7 @@ module _ (functions : List (Function Name)) where
   -- ---- functions
 
   -- a function of the program is the numbered one of the tree
-  resolved_at : (index : ℕ) (fs : List (Function Name)) (i : ℕ) → slice_get (resolve_functions functions index fs) i ≡ option_map (resolve_function functions (index + i)) (slice_get fs i)
+  pub resolved_at : (index : ℕ) (fs : List (Function Name)) (i : ℕ) → slice_get (resolve_functions functions index fs) i ≡ option_map (resolve_function functions (index + i)) (slice_get fs i)
   resolved_at index [] i = refl
   resolved_at index (f ∷ more) zero = let e : index ≡ index + 0 = omega arith in ap (λ n. Some (resolve_function functions n f)) e
   resolved_at index (f ∷ more) (suc i) =
@@ -90,9 +90,9 @@ module _ (functions : List (Function Name)) where
       resolved_at (index + 1) more i ∙ ap (λ n. option_map (resolve_function functions n) (slice_get more i)) e
 
   -- no use in the function is faulty, and if it is called `main` it is a right one
-  record Clean (f : Function Name) : Type 0 where
-    right : is_wrong_main functions f ≡ false
-    uses : Each (λ u. use_faults functions f u ≡ []) (function_uses f)
+  pub record Clean (f : Function Name) : Type 0 where
+    pub right : is_wrong_main functions f ≡ false
+    pub uses : Each (λ u. use_faults functions f u ≡ []) (function_uses f)
 
   clean_uses : (f : Function Name) (uses : List Use) → flat_map (use_faults functions f) uses ≡ [] → Each (λ u. use_faults functions f u ≡ []) uses
   clean_uses f [] e = tt
@@ -109,27 +109,27 @@ module _ (functions : List (Function Name)) where
       let behind_count = nothing_second (fault_where (index == max_functions || nat_lt max_parameter_words (slots_words (parameter_slots f))) f.name.at Variant.count) _ behind_frame in
       record { right = no_fault _ f.name.at Variant.kind (nothing_first _ _ behind_name); uses = clean_uses f (function_uses f) behind_count }
 
-  clean_at : (before : List (Function Name)) (index : ℕ) (fs : List (Function Name)) → functions_faults functions before index fs ≡ [] → (i : ℕ) (f : Function Name) → slice_get fs i ≡ Some f → Clean f
+  pub clean_at : (before : List (Function Name)) (index : ℕ) (fs : List (Function Name)) → functions_faults functions before index fs ≡ [] → (i : ℕ) (f : Function Name) → slice_get fs i ≡ Some f → Clean f
   clean_at before index [] e i f h = absurd (cc)
   clean_at before index (g ∷ more) e zero f h = let is : g ≡ f = cc in subst Clean is (clean before index g (nothing_first _ _ e))
   clean_at before index (g ∷ more) e (suc i) f h = clean_at (before ++ g ∷ []) (index + 1) more (nothing_second (function_faults functions before index g) _ e) i f h
 
   module _ (formed : (f : Function Name) → Contains functions f → FormedFunction f) (sound : functions_faults functions [] 0 functions ≡ []) where
     -- the functions of the program
-    abbrev numbered : List (Function ℕ)
+    abbrev pub numbered : List (Function ℕ)
     numbered = resolve_functions functions 0 functions
 
-    fit_parameters : (f : Function Name) → Contains functions f → Each IsParameter (parameter_slots f)
+    pub fit_parameters : (f : Function Name) → Contains functions f → Each IsParameter (parameter_slots f)
     fit_parameters f among = parameters_fit f.parameters (formed f among).parameters
 
     -- a function that is found by its name
-    found_function : (g : Name) (f : Function Name) → lookup_function functions g ≡ Some f →
+    pub found_function : (g : Name) (f : Function Name) → lookup_function functions g ≡ Some f →
         slice_get numbered (function_number functions g) ≡ Some (resolve_function functions (0 + function_number functions g) f)
     found_function g f e =
         let n = function_number functions g in
         resolved_at 0 functions n ∙ ap (option_map (resolve_function functions (0 + n))) (found_at (λ h. is_same h.name.name g) functions f e)
 
-    known_function : (g : Name) (f : Function Name) → lookup_function functions g ≡ Some f → Standing f (slice_get numbered (function_number functions g))
+    pub known_function : (g : Name) (f : Function Name) → lookup_function functions g ≡ Some f → Standing f (slice_get numbered (function_number functions g))
     known_function g f e =
         let place = found_at (λ h. is_same h.name.name g) functions f e in
         record {

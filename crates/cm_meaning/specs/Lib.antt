@@ -9,6 +9,7 @@ pub mod Law
 pub mod Row
 pub mod Typing
 pub mod TypedState
+pub mod Visible
 pub mod Layout
 pub mod Evaluator
 pub mod Doing

@@ -1,6 +1,7 @@
 -- What a program means: the end of its serial elision, and the ends that fork and join allow.
 use Rattle.std.specs.Prelude.{◌≡◌, ℕ, ◌*◌, ℤ, List}
 use Rattle.cm_syntax.specs.declared.stmt.Program.{Program}
+use Rattle.cm_syntax.specs.Label.{stuck}
 use Rattle.cm_syntax.specs.Stack.{Stack, Destination, StackSum, settle, is_held, empty_stack}
 use Rattle.cm_syntax.specs.Rest.{Control}
 use Rattle.cm_syntax.specs.Step.{Move, step, start_of, depth, inside}
@@ -72,6 +73,18 @@ module _ (program : Program) (page : ℕ) (input : List ℤ) where
   -- the rules lead from the first piece to this one
   abbrev pub Reached : (first : Piece) → Piece → Type 0
   Reached = pieces.Reached Control Stack Destination StackSum settle depth (step program page input)
+
+  -- how a piece comes to its own end
+  abbrev pub Stops : (start own : ℕ) → Control → Stack → List Note → pieces.Own → Type 0
+  Stops = pieces.Stops Control Stack Destination StackSum settle depth (step program page input)
+
+  -- no piece that is reached from this one is in a state that no rule has
+  abbrev pub IsNeverStuck : Piece → Type 0
+  IsNeverStuck first = (p : Piece) → Reached first p → step program page input p.control p.held ≡ stuck → ⊥
+
+-- every child has an end by a value
+abbrev pub AllDone : List Note → Type 0
+AllDone = pieces.AllDone Control Stack Destination
 
 -- the rules allow this end to a program
 abbrev pub ForkEnd : Program → (input : List ℤ) → Limits → End → Type 0

@@ -6,7 +6,7 @@ use Rattle.cm_syntax.specs.Frame.{frame_words}
 use Rattle.cm_syntax.specs.Stack.{Stack, empty_stack}
 use Rattle.cm_syntax.specs.Rest.{Control}
 use Rattle.cm_syntax.specs.Step.{call_bytes}
-use Rattle.cm_meaning.specs.Meaning.{Limits, Comes, first_control}
+use Rattle.cm_meaning.specs.Meaning.{Limits, Piece, Comes, Reached, begun, main_ask, first_control}
 
 -- the bytes of a function's frame
 abbrev pub frame_bytes_in : Option (Function ℕ) → ℕ
@@ -56,3 +56,15 @@ IsSerialPages program input limits n =
 -- the greatest number of live frames of functions marked `cilk`
 abbrev pub IsCilkDepth : Program → (input : List ℤ) → Limits → ℕ → Type 0
 IsCilkDepth program input limits n = IsGreatest program input limits (cilk_frames program) n
+
+-- ---- reached pieces
+
+-- the frame bytes of the live calls of each reached piece of a program take at most so many pages
+abbrev pub FitPages : Program → (input : List ℤ) → Limits → ℕ → Type 0
+FitPages program input limits n = (p : Piece) → Reached program limits.page input (begun (main_ask program limits)) p
+    → frame_bytes program p.control.calls ≤ n * limits.page
+
+-- each reached piece has at most so many live frames of functions marked `cilk`
+abbrev pub FitDepth : Program → (input : List ℤ) → Limits → ℕ → Type 0
+FitDepth program input limits n = (p : Piece) → Reached program limits.page input (begun (main_ask program limits)) p
+    → cilk_frames program p.control.calls ≤ n

@@ -21,6 +21,12 @@ pub data Sum : Type 0 where
   trapped : (out : List ℤ) → Trap → (used : ℕ) → Sum
   spent : Sum
 
+-- an end by a value
+abbrev pub IsDone : End → Type 0
+IsDone (Done out v n) = ⊤
+IsDone (Trapped out k n) = ⊥
+IsDone Spent = ⊥
+
 -- an end after so many ticks: itself within the ticks at the start, and spent beyond
 pub data Capped (start : ℕ) : ℕ → End → End → Type 0 where
   fits : {n : ℕ} {e : End} → n ≤ start → Capped start n e e
@@ -117,6 +123,13 @@ module _ (Control Stack Destination : Type 0) where
   AllTold (printed v ∷ log) = AllTold log
   AllTold (child d o x j q awaited ∷ log) = ⊥
   AllTold (child d o x j q (told e w) ∷ log) = AllTold log
+
+  -- every child of the log has an end by a value
+  abbrev pub AllDone : List Note → Type 0
+  AllDone [] = ⊤
+  AllDone (printed v ∷ log) = AllDone log
+  AllDone (child d o x j q awaited ∷ log) = ⊥
+  AllDone (child d o x j q (told e w) ∷ log) = IsDone e × AllDone log
 
   -- some child has an end that isn't Done
   pub data Fallen : List Note → Type 0 where

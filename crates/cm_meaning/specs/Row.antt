@@ -191,6 +191,25 @@ spawns_and_syncs = program_of (int_function true (slot.Scalar ∷ []) []
     ∷ statement.Sync 0 ∷ give_back (variable 0) ∷ [])
     ∷ int_function false (slot.Scalar ∷ []) (item_of 0 slot.Scalar ∷ []) (give_back (variable 0) ∷ []) ∷ [])
 
+-- `cilk void child() { print(2); } cilk int main() { print(1); spawn child(); print(3); sync; print(4); }`
+abbrev pub prints_in_order : Program
+prints_in_order = program_of (int_function true [] [] (statement.Print (number 1) ∷ statement.Spawn 0 None (call_of 1 [])
+    ∷ statement.Print (number 3) ∷ statement.Sync 0 ∷ statement.Print (number 4) ∷ [])
+    ∷ cilk_procedure [] (statement.Print (number 2) ∷ []) ∷ [])
+
+-- `cilk void child(int i) { int a[1]; print(7); a[i] = 0; } cilk int main() { spawn child(1); print(8); sync; }`
+abbrev pub traps_behind_print : Program
+traps_behind_print = program_of (int_function true [] []
+    (statement.Spawn 0 None (call_of 1 (arg.Value (number 1) ∷ [])) ∷ statement.Print (number 8) ∷ statement.Sync 0 ∷ [])
+    ∷ record {
+      name = mark 0;
+      cilk = true;
+      gives = false;
+      parameters = item_of 0 slot.Scalar ∷ [];
+      body = declare_array 1 1 ∷ statement.Print (number 7) ∷ statement.Assign (target.Index (mark 1) (variable 0)) None (number 0) ∷ [];
+      slots = slot.Scalar ∷ slot.Array 1 ∷ [];
+    } ∷ [])
+
 -- ---- limits
 
 -- so many ticks and a stack of 16 pages of 256 bytes

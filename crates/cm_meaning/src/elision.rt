@@ -1,9 +1,11 @@
 //! The end of the serial elision, and what it takes of the stack: the two loops around the single step.
 ghost use Rattle.std.specs.Prelude.{◌≡◌, ◌≤◌, ◌*◌, IfOk, IfSome, MatchOption, [], length};
 ghost use Rattle.cm_syntax.specs.Fault.{IsSoundProgram};
+ghost use Rattle.cm_syntax.specs.Lending.{IsAccepted};
+ghost use Rattle.cm_meaning.specs.End.{End};
 ghost use Rattle.cm_meaning.specs.Ended.{end_of, limits_of};
-ghost use Rattle.cm_meaning.specs.Meaning.{SerialEnd};
-ghost use Rattle.cm_meaning.specs.Measure.{IsSerialPages, IsCilkDepth, cilk_frames, pages_of};
+ghost use Rattle.cm_meaning.specs.Meaning.{SerialEnd, ForkEnd};
+ghost use Rattle.cm_meaning.specs.Measure.{IsSerialPages, IsCilkDepth, FitPages, FitDepth, cilk_frames, pages_of};
 ghost use Rattle.cm_meaning.specs.Range.{HasRanges, max_input_numbers};
 ghost use Rattle.cm_meaning.specs.Layout.{calls_in, room_in};
 ghost use Rattle.cm_meaning.specs.Evaluator.{IsKept};
@@ -38,7 +40,8 @@ struct Finished {
     most: Most,
 }
 
-/// The end of the serial elision of a program with this input and these limits, which have to be in their ranges:
+/// The end of the serial elision of a program with this input and these limits; fork and join allow it, and no other
+/// end. Input and limits have to be in their ranges:
 /// ticks from 1 to 100,000,000, stack from 16 to 256 pages, a page of 256, 1024 or 4096 bytes, and at most 65,536
 /// numbers. `Memory` is want of memory. The time grows with the ticks that are taken, and between two ticks with the
 /// text of a function, its arrays and what a `return` leaves; the memory with the bytes of the stack, the calls that are
@@ -51,15 +54,17 @@ pub fn elide(
 ) -> Result<Ended, Memory>
     requires input { length input.now ≤ max_input_numbers }
     requires limits { HasRanges (limits_of limits.now) }
-    ensures { IfOk result (λ ended. SerialEnd program.now input.now (limits_of limits.now) (end_of ended)) }
+    ensures serial { IfOk result (λ ended. SerialEnd program.now input.now (limits_of limits.now) (end_of ended)) }
+    ensures fork { IfOk result (λ ended. ForkEnd program.now input.now (limits_of limits.now) (end_of ended)) }
+    ensures only { IfOk result (λ ended. (e : End) → ForkEnd program.now input.now (limits_of limits.now) e → e ≡ end_of ended) }
 {
     let finished = run(alloc, program, input, limits)?;
     Ok(finished.ended)
 }
 
 /// The two numbers that bound the pages of a parallel run: the pages of the greatest sum of frame bytes of live calls
-/// in the elision, and the greatest number of live calls of functions marked `cilk`. None is answered exactly where the
-/// elision doesn't end by a value. Input and limits have to be in their ranges, as for `elide`; time and memory are its.
+/// in the elision, and the greatest number of live calls of functions marked `cilk`. No piece of the program goes beyond
+/// them. None is answered exactly where the elision doesn't end by a value. Input and limits have to be in their ranges, as for `elide`; time and memory are its.
 pub fn measure(
     alloc: Global,
     program: &Checked,
@@ -75,6 +80,10 @@ pub fn measure(
     ensures value { IfOk result (λ found. MatchOption found
         (EndsByValue program.now input.now (limits_of limits.now) → ⊥)
         (λ m. EndsByValue program.now input.now (limits_of limits.now))) }
+    ensures piece_pages { IfOk result (λ found. IfSome found (λ m.
+        FitPages program.now input.now (limits_of limits.now) m.pages)) }
+    ensures piece_depth { IfOk result (λ found. IfSome found (λ m.
+        FitDepth program.now input.now (limits_of limits.now) m.depth)) }
 {
     let finished = run(alloc, program, input, limits)?;
     match finished.ended {
@@ -101,6 +110,8 @@ fn run(alloc: Global, program: &Checked, input: &[i32], limits: &Limits) -> Resu
     requires limits { HasRanges (limits_of limits.now) }
     ensures end { IfOk result (λ finished. SerialEnd program.now input.now (limits_of limits.now) (end_of finished.ended)) }
     ensures most { IfOk result (λ finished. HasMost program.now input.now (limits_of limits.now) finished.ended finished.most) }
+    ensures sound { IfOk result (λ finished. IsSoundProgram program.now) }
+    ensures accepted { IfOk result (λ finished. IsAccepted program.now) }
 {
     let mut evaluator = Evaluator::new(alloc, program.program(), input, limits)?;
     let mut output = Output::new(alloc);

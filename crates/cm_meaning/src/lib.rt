@@ -11,6 +11,7 @@ mod ended;
 mod ended_text;
 mod evaluator;
 mod expression;
+mod fork_law;
 mod frames;
 mod law;
 mod operator;
@@ -23,6 +24,10 @@ mod work;
 pub use elision::{elide, measure};
 pub use ended::{Ended, Limits, Measure, Trap};
 pub use ended_text::text;
+pub use fork_law::{
+    checked_pieces_return, checked_programs_fork, checked_programs_go_on, children_give_back,
+    forks_end, reached_pieces_return, sound_programs_see,
+};
 pub use law::{
     accounts_of_calls, forks_mean_elisions, more_ticks_same_end, one_serial_end, runs_beside_words,
     runs_inside_callers, sound_programs_are_typed, sound_programs_end, spawns_are_calls,
@@ -33,6 +38,7 @@ pub use output::Output;
 pub use row::{
     calls_to_the_account, cilk_calls_take_pages, early_stops, first_child_decides,
     joins_count_once, left_operand_first, loop_ticks, measures_of_runs, one_trap_of_each_kind,
-    operators_at_corners, prints_take_ticks, spawns_as_calls, splits_at_ends, sums_and_products,
-    traps_beside_loops, unset_words_unread, updates_read_last,
+    operators_at_corners, prints_in_the_order_of_spawns, prints_take_ticks, spawns_as_calls,
+    splits_at_ends, sums_and_products, traps_beside_loops, traps_hide_later_prints,
+    unset_words_unread, updates_read_last,
 };

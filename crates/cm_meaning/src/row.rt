@@ -128,6 +128,7 @@ pub fn traps_beside_loops()
     ensures enough { ForkEnd row.loop_beside_trap [] (row.with_ticks 12) (Trapped [] kind.Divide 12) }
     ensures spent { ForkEnd row.loop_beside_trap [] (row.with_ticks 11) Spent }
     ensures alone { (e : End) → ForkEnd row.loop_beside_trap [] (row.with_ticks 11) e → e ≡ Spent }
+    ensures not_spent { ForkEnd row.loop_beside_trap [] (row.with_ticks 12) Spent → ⊥ }
     ensures serial { SerialEnd row.loop_beside_trap [] (row.with_ticks 12) (Trapped [] kind.Divide 12) }
     ensures serial_spent { SerialEnd row.loop_beside_trap [] (row.with_ticks 11) Spent }
 {}
@@ -145,6 +146,27 @@ pub fn joins_count_once()
     ensures enough { ForkEnd row.spawns_and_syncs [] (row.with_ticks 2) (Done [] (Some (pos 4)) 2) }
     ensures spent { (e : End) → ForkEnd row.spawns_and_syncs [] (row.with_ticks 1) e → e ≡ Spent }
     ensures serial { SerialEnd row.spawns_and_syncs [] (row.with_ticks 2) (Done [] (Some (pos 4)) 2) }
+{}
+
+/// What a child prints stands where it was spawned, before what its parent prints behind the spawn, and never in the
+/// order of finishing; six ticks are enough. The elision says the same.
+pub fn prints_in_the_order_of_spawns()
+    ensures end { ForkEnd row.prints_in_order [] (row.with_ticks 6) (Done (pos 1 ∷ pos 2 ∷ pos 3 ∷ pos 4 ∷ []) (Some (pos 0)) 6) }
+    ensures alone { (e : End) → ForkEnd row.prints_in_order [] (row.with_ticks 6) e
+        → e ≡ Done (pos 1 ∷ pos 2 ∷ pos 3 ∷ pos 4 ∷ []) (Some (pos 0)) 6 }
+    ensures no_other { ForkEnd row.prints_in_order [] (row.with_ticks 6)
+        (Done (pos 1 ∷ pos 3 ∷ pos 2 ∷ pos 4 ∷ []) (Some (pos 0)) 6) → ⊥ }
+    ensures spent { (e : End) → ForkEnd row.prints_in_order [] (row.with_ticks 5) e → e ≡ Spent }
+    ensures serial { SerialEnd row.prints_in_order [] (row.with_ticks 6) (Done (pos 1 ∷ pos 2 ∷ pos 3 ∷ pos 4 ∷ []) (Some (pos 0)) 6) }
+{}
+
+/// A child prints and traps: what its parent prints behind the spawn isn't shown, and the parent's ticks there don't
+/// count.
+pub fn traps_hide_later_prints()
+    ensures end { ForkEnd row.traps_behind_print [] (row.with_ticks 9) (Trapped (pos 7 ∷ []) kind.Index 3) }
+    ensures alone { (e : End) → ForkEnd row.traps_behind_print [] (row.with_ticks 9) e → e ≡ Trapped (pos 7 ∷ []) kind.Index 3 }
+    ensures no_other { ForkEnd row.traps_behind_print [] (row.with_ticks 9) (Trapped (pos 7 ∷ pos 8 ∷ []) kind.Index 4) → ⊥ }
+    ensures serial { SerialEnd row.traps_behind_print [] (row.with_ticks 9) (Trapped (pos 7 ∷ []) kind.Index 3) }
 {}
 
 /// Five frames of 16 bytes take two pages of 64 bytes; the only live call of a function marked `cilk` is main.

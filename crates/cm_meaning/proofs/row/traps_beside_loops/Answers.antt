@@ -1,4 +1,4 @@
-use Rattle.std.specs.Prelude.{[]}
+use Rattle.std.specs.Prelude.{◌≡◌, []}
 use Rattle.std.specs.Int.{int_wrap}
 use Rattle.std.proofs.Common.{refl, arith}
 use Rattle.cm_syntax.specs.Stack.{empty_stack}
@@ -30,3 +30,10 @@ returns-clause-serial c = trapped row.loop_beside_trap [] (row.with_ticks 12) 25
 pub returns-clause-serial_spent : goal.returns-clause-serial_spent
 unfolding int_wrap Rattle.cm_syntax.specs.declared.expr.Arg.TheBlock.shape-the_row-Expr-0 Rattle.cm_syntax.specs.declared.expr.Arg.TheBlock.hidden-the_row-Expr-0 Rattle.cm_syntax.specs.declared.expr.Arg.TheBlock.shape-the_row-Arg-1 Rattle.cm_syntax.specs.declared.expr.Arg.TheBlock.hidden-the_row-Arg-1 Rattle.cm_syntax.specs.declared.stmt.Stmt.TheBlock.shape-the_row-Stmt-0 Rattle.cm_syntax.specs.declared.stmt.Stmt.TheBlock.hidden-the_row-Stmt-0 Rattle.cm_syntax.specs.declared.stmt.Stmt.TheBlock.shape-the_row-Stmt-1 Rattle.cm_syntax.specs.declared.stmt.Stmt.TheBlock.hidden-the_row-Stmt-1 denote.Hole.Carrier.hidden
 returns-clause-serial_spent c = spent row.loop_beside_trap [] (row.with_ticks 11) 250 (omega arith)
+
+pub returns-clause-not_spent : goal.returns-clause-not_spent
+unfolding int_wrap Rattle.cm_syntax.specs.declared.expr.Arg.TheBlock.shape-the_row-Expr-0 Rattle.cm_syntax.specs.declared.expr.Arg.TheBlock.hidden-the_row-Expr-0 Rattle.cm_syntax.specs.declared.expr.Arg.TheBlock.shape-the_row-Arg-1 Rattle.cm_syntax.specs.declared.expr.Arg.TheBlock.hidden-the_row-Arg-1 Rattle.cm_syntax.specs.declared.stmt.Stmt.TheBlock.shape-the_row-Stmt-0 Rattle.cm_syntax.specs.declared.stmt.Stmt.TheBlock.hidden-the_row-Stmt-0 Rattle.cm_syntax.specs.declared.stmt.Stmt.TheBlock.shape-the_row-Stmt-1 Rattle.cm_syntax.specs.declared.stmt.Stmt.TheBlock.hidden-the_row-Stmt-1 denote.Hole.Carrier.hidden
+returns-clause-not_spent c = λ f. differ (only_end row.loop_beside_trap [] (row.with_ticks 12) (Trapped [] kind.Divide 12) Spent (trapped row.loop_beside_trap [] (row.with_ticks 12) 250 refl (omega arith)) f)
+  where
+    differ : Spent ≡ Trapped [] kind.Divide 12 → ⊥
+    differ e = cc e
