@@ -1,4 +1,4 @@
--- What the code before and after a function's body does.
+-- What the code before a function's body does.
 use Rattle.cm_isa.specs.Bits.{minus}
 use Rattle.cm_isa.specs.declared.convention.TheConstants as reg
 use Rattle.std.proofs.Common.{◌≡◌, ◌≢◌, ℕ, ◌+◌, ◌-◌, ◌*◌, ◌%◌, ◌^◌, ◌<◌, ◌≤◌, [], ◌∷◌, length, Option, Some, refl, sym, ap, ◌∙◌, subst, arith, inl, inr}
@@ -14,12 +14,12 @@ use Rattle.cm_isa.specs.Machine.{Machine, Code, InstructionsAt, machine_after, m
 use Rattle.cm_isa.specs.Run.{ComesTo}
 use Rattle.cm_isa.specs.Register.{with_register}
 use Rattle.cm_isa.proofs.Machine.{same_machine}
-use Rattle.cm_gen.specs.Assembler.{addi, add, sub, lw, sw, jalr, bne, bgeu}
+use Rattle.cm_gen.specs.Assembler.{addi, add, sub, sw, bne, bgeu}
 use Rattle.cm_gen.specs.Code.{load_number, tick}
 use Rattle.cm_gen.proofs.WordLaw as words
-use Rattle.cm_gen.proofs.Step.{comes_by_one, comes_on, follow_is, load_word, store_word}
+use Rattle.cm_gen.proofs.Step.{comes_by_one, comes_on, follow_is, store_word}
 use Rattle.cm_gen.proofs.PatternLaw.{Sets, load_number_runs}
-use Rattle.cm_gen.proofs.Expression.{some_of, with_word_mapped}
+use Rattle.cm_gen.proofs.MappedWordLaw.{some_of, with_word_mapped}
 
 -- ---- registers in two forms
 
@@ -184,46 +184,3 @@ module _ (code : Code) where
       let sum : p + 4 + 4 + 4 + 4 + 4 + 4 ≡ p + 24 = omega arith in
       let six : ComesTo code 6 m0 m6 = comes_on code 1 5 m0 m1 m6 s1 (comes_on code 1 4 m1 m2 m6 s2 (comes_on code 1 3 m2 m3 m6 s3 (comes_on code 1 2 m3 m4 m6 s4 (comes_on code 1 1 m4 m5 m6 s5 s6)))) in
       comes_on code size 6 m m0 _ number_runs (subst (λ c. ComesTo code 6 m0 (record { registers = r3; counter = c; words = w3 })) sum six)
-
--- the registers that the code after a body leaves
-abbrev pub left_registers : (q back pointer : ℕ) → (ℕ → ℕ) → ℕ → ℕ
-left_registers q back pointer r = with_register (with_register (with_register (with_register (with_register (with_register r reg.HELP q) reg.ACCOUNT (r reg.ACCOUNT + q)) reg.RESULT (r reg.VALUE)) reg.RA back) reg.SP (r reg.FP)) reg.FP pointer
-
-module _ (code : Code) where
-  pub leave_by : (q p back pointer : ℕ) (r : ℕ → ℕ) (w : ℕ → Option ℕ) (m : Machine) (size : ℕ) → r reg.FP % 4 ≡ 0 → 8 ≤ r reg.FP → r reg.FP < 2 ^ 32 → r reg.VALUE < 2 ^ 32 → r reg.ACCOUNT + q < 2 ^ 32
-      → w (r reg.FP - 4) ≡ Some back → w (r reg.FP - 8) ≡ Some pointer → back % 4 ≡ 0 → back < 2 ^ 32 → p + 24 < 2 ^ 32
-      → InstructionsAt code p (add reg.ACCOUNT reg.ACCOUNT reg.HELP ∷ addi reg.RESULT reg.VALUE (pos 0) ∷ lw reg.RA reg.FP (minus 4) ∷ addi reg.SP reg.FP (pos 0) ∷ lw reg.FP reg.FP (minus 8) ∷ jalr reg.ZERO reg.RA (pos 0) ∷ [])
-      → ComesTo code size m (record { registers = with_register r reg.HELP q; counter = p; words = w })
-      → ComesTo code (size + 6) m (record { registers = left_registers q back pointer r; counter = back; words = w })
-  leave_by q p back pointer r w m size aligned least fits8 five account there_4 there_8 back_4 back_word room code_is number_runs =
-      let f = r reg.FP in
-      let r0 = with_register r reg.HELP q in
-      let r1 = with_register r0 reg.ACCOUNT (r reg.ACCOUNT + q) in
-      let r2 = with_register r1 reg.RESULT (r reg.VALUE) in
-      let r3 = with_register r2 reg.RA back in
-      let r4 = with_register r3 reg.SP f in
-      let r5 = with_register r4 reg.FP pointer in
-      let m0 : Machine = record { registers = r0; counter = p; words = w } in
-      let m1 : Machine = record { registers = r1; counter = p + 4; words = w } in
-      let m2 : Machine = record { registers = r2; counter = p + 4 + 4; words = w } in
-      let m3 : Machine = record { registers = r3; counter = p + 4 + 4 + 4; words = w } in
-      let m4 : Machine = record { registers = r4; counter = p + 4 + 4 + 4 + 4; words = w } in
-      let m5 : Machine = record { registers = r5; counter = p + 4 + 4 + 4 + 4 + 4; words = w } in
-      let m6 : Machine = record { registers = r5; counter = back; words = w } in
-      let paid : word (int (r reg.ACCOUNT) +ℤ int q) ≡ r reg.ACCOUNT + q = words.word-add (r reg.ACCOUNT) q (omega arith) (omega arith) ∙ omega arith in
-      let result : word (int (r reg.VALUE) +ℤ int (cast_unsigned w32 (pos 0))) ≡ r reg.VALUE = words.word-add (r reg.VALUE) 0 five (omega arith) ∙ omega arith in
-      let copied : word (int f +ℤ int (cast_unsigned w32 (pos 0))) ≡ f = words.word-add f 0 fits8 (omega arith) ∙ omega arith in
-      let at_4 : offset f (minus 4) ≡ f - 4 = words.offset_down f 4 (omega arith) fits8 (minus 4) (omega (arith, ints)) in
-      let at_8 : offset f (minus 8) ≡ f - 8 = words.offset_down f 8 (omega arith) fits8 (minus 8) (omega (arith, ints)) in
-      let four_4 : (f - 4) % 4 ≡ 0 = omega arith in
-      let eight_4 : (f - 8) % 4 ≡ 0 = omega arith in
-      let at_back : offset back (pos 0) ≡ back = words.offset_up back 0 (omega arith) ∙ omega arith in
-      let even : back - back % 2 ≡ back = omega arith in
-      let s1 : ComesTo code 1 m0 m1 = set_at code (add reg.ACCOUNT reg.ACCOUNT reg.HELP) reg.ACCOUNT (r reg.ACCOUNT + q) p m0 refl (omega arith) code_is.0 (ap (λ v. Some (machine_with m0 (with_register r0 reg.ACCOUNT v) (follow p))) paid) in
-      let s2 : ComesTo code 1 m1 m2 = set_at code (addi reg.RESULT reg.VALUE (pos 0)) reg.RESULT (r reg.VALUE) (p + 4) m1 refl (omega arith) code_is.1.0 (ap (λ v. Some (machine_with m1 (with_register r1 reg.RESULT v) (follow (p + 4)))) result) in
-      let s3 : ComesTo code 1 m2 m3 = set_at code (lw reg.RA reg.FP (minus 4)) reg.RA back (p + 4 + 4) m2 refl (omega arith) code_is.1.1.0 (rw at_4 (load_word reg.RA (f - 4) back m2 four_4 there_4)) in
-      let s4 : ComesTo code 1 m3 m4 = set_at code (addi reg.SP reg.FP (pos 0)) reg.SP f (p + 4 + 4 + 4) m3 refl (omega arith) code_is.1.1.1.0 (ap (λ v. Some (machine_with m3 (with_register r3 reg.SP v) (follow (p + 4 + 4 + 4)))) copied) in
-      let s5 : ComesTo code 1 m4 m5 = set_at code (lw reg.FP reg.FP (minus 8)) reg.FP pointer (p + 4 + 4 + 4 + 4) m4 refl (omega arith) code_is.1.1.1.1.0 (rw at_8 (load_word reg.FP (f - 8) pointer m4 eight_4 there_8)) in
-      let s6 : ComesTo code 1 m5 m6 = comes_by_one code (jalr reg.ZERO reg.RA (pos 0)) m5 m6 code_is.1.1.1.1.1.0 (rw (at_back, even, back_4) refl) in
-      let six : ComesTo code 6 m0 m6 = comes_on code 1 5 m0 m1 m6 s1 (comes_on code 1 4 m1 m2 m6 s2 (comes_on code 1 3 m2 m3 m6 s3 (comes_on code 1 2 m3 m4 m6 s4 (comes_on code 1 1 m4 m5 m6 s5 s6)))) in
-      comes_on code size 6 m m0 m6 number_runs six

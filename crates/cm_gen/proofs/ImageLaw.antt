@@ -27,7 +27,7 @@ serial_more true form page f fs is more = more
 serial_more false form page f fs is more =
     ap (λ code. code ++ functions_code form page (marked false fs)) (unmarked form page f is) ∙ ap (λ later. function_code Serial page f ++ later) more
 
-serial_codes : (form : Form) (page : ℕ) (fs : List (Function ℕ)) → functions_code form page (marked false fs) ≡ functions_code Serial page (marked false fs)
+pub serial_codes : (form : Form) (page : ℕ) (fs : List (Function ℕ)) → functions_code form page (marked false fs) ≡ functions_code Serial page (marked false fs)
 serial_codes form page [] = refl
 serial_codes form page (f ∷ fs) = serial_more f.cilk form page f fs refl (serial_codes form page fs)
 
@@ -56,7 +56,7 @@ length-entries form page serial cilk (f ∷ fs) =
     length-choice f.cilk cilk serial _ _ _ (length-entries form page serial (cilk + words) fs) (length-entries form page (serial + words) cilk fs)
 
 -- two values that are there are the same, and true isn't false
-same_some : {X : Type 0} {x y : X} → Some x ≡ Some y → x ≡ y
+pub same_some : {X : Type 0} {x y : X} → Some x ≡ Some y → x ≡ y
 same_some h = cc
 
 true_false : true ≡ false → ⊥

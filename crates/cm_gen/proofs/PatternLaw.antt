@@ -1,8 +1,7 @@
 -- What each pattern of the code does: the machine comes from the pattern's address to the address after it.
 use Rattle.cm_isa.specs.declared.convention.TheConstants as reg
-use Rattle.std.proofs.Common.{◌≡◌, ℕ, ◌+◌, ◌*◌, ◌%◌, ◌^◌, ◌<◌, [], ◌∷◌, length, Option, Some, refl, sym, ap, ◌∙◌, subst, arith}
-use Rattle.std.proofs.lemmas.Option.{none-some, same_Some}
-use Rattle.std.specs.Prelude.{Bool, true, false, ◌==◌, if◌then◌else◌, ℤ, ◌+ℤ◌, ◌-ℤ◌, ◌*ℤ◌, FitsSigned}
+use Rattle.std.proofs.Common.{◌≡◌, ℕ, ◌+◌, ◌*◌, ◌%◌, ◌^◌, ◌<◌, [], ◌∷◌, length, Some, refl, sym, ap, ◌∙◌, subst, arith}
+use Rattle.std.specs.Prelude.{Bool, true, false, ◌==◌, if◌then◌else◌, ℤ, ◌+ℤ◌, FitsSigned}
 use Rattle.std.specs.Int.{w32, cast_unsigned}
 use Rattle.cm_isa.specs.Operation.{Operation}
 use Rattle.cm_isa.specs.Alu.{int, word, offset}
@@ -11,10 +10,7 @@ use Rattle.cm_isa.specs.Machine.{Machine, Code, InstructionsAt, machine_after, m
 use Rattle.cm_isa.specs.Run.{ComesTo}
 use Rattle.cm_isa.specs.Register.{with_register}
 use Rattle.cm_gen.specs.Assembler.{lui, addi, add, lw, sw}
-use Rattle.cm_syntax.specs.declared.expr.Op.{Op}
-use Rattle.cm_syntax.specs.declared.expr.Op.TheVariants.{Mul, Add, Sub}
-use Rattle.cm_syntax.specs.Word.{wrap, apply_operator}
-use Rattle.cm_gen.specs.Code.{is_near, low_part, high_part, load_number, load_slot, store_slot, operate}
+use Rattle.cm_gen.specs.Code.{is_near, low_part, high_part, load_number, load_slot, store_slot}
 use Rattle.cm_gen.proofs.WordLaw as words
 use Rattle.cm_gen.proofs.Step.{comes_by_one, comes_on, follow_is, with_register_same, with_register_other, load_word, store_word}
 
@@ -186,25 +182,3 @@ module _ (code : Code) where
       → InstructionsAt code m.counter (load_slot r o)
       → (t : Machine) × ComesTo code (length (load_slot r o)) m t × Sets r v (4 * length (load_slot r o)) m t
   load_slot_runs r o a v m nonzero other frame address aligned there room code_is = load_slot_by (is_near o) r o a v m nonzero other frame address aligned there room code_is
-
-  -- an operator of two words, its left one in x6 and its right one in x5
-  pub operate_runs : (op : Op) (left right value : ℤ) (m : Machine) → FitsSigned w32 left → FitsSigned w32 right → apply_operator op left right ≡ Some value
-      → m.registers reg.LEFT ≡ cast_unsigned w32 left → m.registers reg.VALUE ≡ cast_unsigned w32 right → m.counter + 4 < 2 ^ 32 → code m.counter (operate op)
-      → (t : Machine) × ComesTo code 1 m t × Sets reg.VALUE (cast_unsigned w32 value) 4 m t
-  operate_runs op left right value m fits_left fits_right means six five room code_is =
-      sets_by_one (operate op) 5 (cast_unsigned w32 value) m refl room code_is (operated op means)
-    where
-      joined : (f : ℤ → ℤ → ℤ) → Some (wrap (f left right)) ≡ Some value → word (f (int (m.registers reg.LEFT)) (int (m.registers reg.VALUE))) ≡ cast_unsigned w32 value
-      joined f e =
-          ap (λ u. word (f (int u) (int (m.registers reg.VALUE)))) six ∙ ap (λ u. word (f (int (cast_unsigned w32 left)) (int u))) five
-          ∙ ap (λ u. word (f u (int (cast_unsigned w32 right)))) (words.int-cast_unsigned left fits_left) ∙ ap (λ u. word (f left u)) (words.int-cast_unsigned right fits_right)
-          ∙ sym (words.cast_unsigned-wrap (f left right)) ∙ ap (cast_unsigned w32) (same_Some (wrap (f left right)) value e)
-
-      next : ℕ → Option Machine
-      next v = Some (machine_with m (with_register m.registers reg.VALUE v) (follow m.counter))
-
-      operated : (op : Op) → apply_operator op left right ≡ Some value → machine_after (operate op) m ≡ next (cast_unsigned w32 value)
-      operated Mul e = ap next (joined (λ a b. a *ℤ b) e)
-      operated Add e = ap next (joined (λ a b. a +ℤ b) e)
-      operated Sub e = ap next (joined (λ a b. a -ℤ b) e)
-      operated _ e = absurd (none-some value e)

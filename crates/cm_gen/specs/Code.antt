@@ -1,18 +1,12 @@
--- The code of a program of one function `int main() { return E; }`, by its patterns. The registers have the names of
+-- The patterns that the code of statements and functions is made of. The registers have the names of
 -- `cm_isa/src/convention.rt`.
 use Rattle.std.specs.Prelude.{ℕ, ◌+◌, ◌*◌, ℤ, pos, ◌+ℤ◌, ◌-ℤ◌, int_le, Bool, ◌&&◌, if◌then◌else◌, List, [], ◌∷◌, ◌++◌}
 use Rattle.std.specs.Int.{int_rem_euclid}
 use Rattle.cm_isa.specs.Bits.{minus}
 use Rattle.cm_isa.specs.Operation.{Operation, ecall}
 use Rattle.cm_isa.specs.declared.convention.TheConstants as reg
-use Rattle.cm_syntax.specs.declared.expr.Op.{Op}
-use Rattle.cm_syntax.specs.declared.expr.Op.TheVariants.{Mul, Add, Sub}
-use Rattle.cm_syntax.specs.declared.expr.Expr.{Expr}
-use Rattle.cm_syntax.specs.declared.expr.Expr.TheVariants.{Number}
-use Rattle.cm_syntax.specs.Shape.{Joined}
-use Rattle.cm_syntax.specs.Frame.{temporaries, rounded_frame}
 use Rattle.cm_syntax.specs.Word.{wrap}
-use Rattle.cm_gen.specs.Assembler.{lui, addi, add, sub, mul, lw, sw, jal, jalr, bne, bgeu}
+use Rattle.cm_gen.specs.Assembler.{lui, addi, add, sub, lw, sw, jalr, bne, bgeu}
 
 -- ---- numbers in instructions
 
@@ -50,27 +44,11 @@ service n = addi reg.SERVICE reg.ZERO n ∷ ecall ∷ []
 abbrev pub tick : List Operation
 tick = bne reg.TICKS reg.ZERO (pos 12) ∷ (service (pos 6) ++ addi reg.TICKS reg.TICKS (minus 1) ∷ [])
 
--- ---- expressions
+-- ---- temporaries
 
 -- the offset of temporary j in a frame whose slots have so many words
 abbrev pub temporary : (slots j : ℕ) → ℤ
 temporary slots j = minus (4 * (3 + slots + j))
-
--- The operator, with its left operand in LEFT and its right one in VALUE. Only `+`, `-` and `*` have
--- code here: the last case, which does nothing, says nothing of the other operators, and no closed expression has them.
-abbrev pub operate : Op → Operation
-operate Mul = mul reg.VALUE reg.LEFT reg.VALUE
-operate Add = add reg.VALUE reg.LEFT reg.VALUE
-operate Sub = sub reg.VALUE reg.LEFT reg.VALUE
-operate _ = addi reg.ZERO reg.ZERO (pos 0)
-
--- VALUE takes the expression's value; d temporaries are in use before. Only literals and what operators join
--- have code here: the last case, no instruction, says nothing of the other expressions, and no closed one has them.
-abbrev pub evaluate : (slots : ℕ) → Expr ℕ → (d : ℕ) → List Operation
-evaluate slots (Number n) d = load_number reg.VALUE n
-evaluate slots (Joined op left right) d =
-    evaluate slots left d ++ (store_slot reg.VALUE (temporary slots d) ++ (evaluate slots right (d + 1) ++ (load_slot reg.LEFT (temporary slots d) ++ operate op ∷ [])))
-evaluate slots _ d = []
 
 -- ---- functions
 
@@ -89,15 +67,3 @@ entry b q = tick ++ (take_account q ++ make_frame b)
 -- the code after a function's body
 abbrev pub leave : (q : ℕ) → List Operation
 leave q = load_number reg.HELP (pos q) ++ (add reg.ACCOUNT reg.ACCOUNT reg.HELP ∷ addi reg.RESULT reg.VALUE (pos 0) ∷ lw reg.RA reg.FP (minus 4) ∷ addi reg.SP reg.FP (pos 0) ∷ lw reg.FP reg.FP (minus 8) ∷ jalr reg.ZERO reg.RA (pos 0) ∷ [])
-
--- the bytes of main's frame
-abbrev pub frame_bytes : Expr ℕ → ℕ
-frame_bytes e = 4 * rounded_frame 0 (temporaries e 0)
-
--- `return E;` at the end of a body jumps past the 0 that a function that falls off its end returns
-abbrev pub main_code : Expr ℕ → List Operation
-main_code e = let b = frame_bytes e in entry b b ++ (evaluate 0 e 0 ++ (jal reg.ZERO (pos 8) ∷ addi reg.VALUE reg.ZERO (pos 0) ∷ leave b))
-
--- the image: the end service at address 0, the table of functions at address 8, and main
-abbrev pub first_code : Expr ℕ → List Operation
-first_code e = service (pos 0) ++ (jal reg.ZERO (pos 4) ∷ main_code e)

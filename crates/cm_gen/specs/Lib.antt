@@ -9,3 +9,9 @@ pub mod Image
 pub mod Row
 pub mod Builder
 pub mod Fits
+pub mod Build
+pub mod Standing
+pub mod FrameWord
+pub mod StandsFor
+pub mod Formed
+pub mod Literal

@@ -4,18 +4,18 @@
 ghost use Rattle.std.specs.Prelude.{◌≡◌, ◌+◌, ◌*◌, ◌<◌, ◌≤◌, ◌^◌, ◌%◌, pos, ◌-ℤ◌, [], ◌∷◌, ◌++◌, length, map, IfOk, OnOk};
 ghost use Rattle.cm_isa.specs.declared.convention.TheConstants as reg;
 ghost use Rattle.cm_syntax.specs.Frame as frame;
-ghost use Rattle.cm_syntax.specs.Limit.{max_frame_words};
 ghost use Rattle.cm_syntax.specs.Fault as fault;
 ghost use Rattle.cm_gen.specs.Assembler as code;
+ghost use Rattle.cm_gen.specs.Code.{service};
 ghost use Rattle.cm_gen.specs.Fits as fits;
 ghost use Rattle.cm_gen.specs.Image as image;
 
 use crate::builder::CodeBuilder;
 use crate::form::Form;
 use crate::function_code::function;
-use crate::instruction::jal;
+use crate::instruction::{addi, ecall, jal};
 use cm_isa::Instr;
-use cm_isa::convention::ZERO;
+use cm_isa::convention::{SERVICE, ZERO};
 use cm_syntax::{Function, Item, Slot, frame_words};
 use cm_text::{List, Memory};
 use std::alloc::Global;
@@ -25,6 +25,25 @@ use std::alloc::Global;
 pub(crate) struct Front {
     pub(crate) entries: List<u32>,
     pub(crate) code: List<Instr>,
+}
+
+impl Front {
+    /// The addresses, without the instructions.
+    pub(crate) fn into_entries(self) -> List<u32>
+        ensures { result ≡ self.entries }
+    {
+        let Front { entries, code: _ } = self;
+        entries
+    }
+}
+
+/// The service that ends a run, to which main goes back.
+pub(crate) fn end_service(code: &mut List<Instr>) -> Result<(), Memory>
+    ensures { OnOk result (code.new ≡ code.old ++ service (pos 0)) }
+{
+    code.push(addi(SERVICE, ZERO, 0))?;
+    code.push(ecall())?;
+    Ok(())
 }
 
 /// A function's address, and its word in the table, which stands at `address`.

@@ -1,6 +1,6 @@
 //! Laws of the definitions of the code. The functions do nothing: their contracts are the laws.
 
-ghost use Rattle.std.specs.Prelude.{◌≡◌, ◌≤◌, ◌^◌, ◌+◌, ◌*◌, ◌++◌, ℕ, List, length, false, true, Some, slice_get};
+ghost use Rattle.std.specs.Prelude.{◌≡◌, ◌≤◌, ◌<◌, ◌^◌, ◌+◌, ◌*◌, ◌++◌, ℕ, List, length, false, true, Some, slice_get};
 ghost use Rattle.cm_syntax.specs.declared.expr.Expr.{Expr};
 ghost use Rattle.cm_syntax.specs.declared.stmt.Slot.{Slot};
 ghost use Rattle.cm_syntax.specs.declared.stmt.Stmt.{Stmt};
@@ -12,7 +12,10 @@ ghost use Rattle.cm_gen.specs.declared.form.Form.{Form};
 ghost use Rattle.cm_gen.specs.declared.form.Form.TheVariants.{Serial};
 ghost use Rattle.cm_syntax.specs.Frame.{temporaries};
 ghost use Rattle.cm_syntax.specs.Limit.{max_frame_words, max_functions};
-ghost use Rattle.cm_syntax.specs.Fault.{IsSoundProgram};
+ghost use Rattle.cm_syntax.specs.declared.stmt.Tree.{Tree};
+ghost use Rattle.cm_syntax.specs.Fault.{IsSoundProgram, program_of};
+ghost use Rattle.cm_syntax.specs.Grammar.{IsSourceOf};
+ghost use Rattle.cm_gen.specs.Build.{max_image_words};
 ghost use Rattle.cm_gen.specs.Fits.{Fits, HasShortCalls, FunctionsFit};
 ghost use Rattle.cm_gen.specs.Part.{laid};
 ghost use Rattle.cm_gen.specs.Builder.{AreCallsWithin};
@@ -64,4 +67,15 @@ pub fn sound_programs_fit()
     ensures room { (program : Program) (form : Form) (page : ℕ) → IsSoundProgram program
         → length (program_code program form page) ≤ 200000
         → HaveRoom form page (functions_start program) (serial_end program page) program.functions }
+{}
+
+/// The image of a source's program has at most 24 words for each byte of the text, and two. So the program of a text of at
+/// most 8,192 bytes is never refused as long, and the number of an image's words fits 32 bits.
+pub fn images_are_bounded()
+    ensures words { (bytes : List ℕ) (tree : Tree) (form : Form) (page : ℕ) → IsSourceOf bytes tree
+        → length (image_of (program_of tree) form page) ≤ 24 * length bytes + 2 }
+    ensures short { (bytes : List ℕ) (tree : Tree) (form : Form) (page : ℕ) → IsSourceOf bytes tree
+        → length bytes ≤ 8192 → length (image_of (program_of tree) form page) ≤ max_image_words }
+    ensures sound { (program : Program) (form : Form) (page : ℕ) → IsSoundProgram program
+        → length (image_of program form page) < 2 ^ 32 }
 {}

@@ -1,4 +1,4 @@
-//! The words of code, laid out from an address on.
+//! The words of instructions, and of code that is laid out from an address on.
 #![tactic(auto)]
 
 ghost use Rattle.std.specs.Prelude.{◌≡◌, ◌+◌, ◌*◌, ◌≤◌, ◌<◌, ◌^◌, ◌%◌, length, IfOk};
@@ -12,6 +12,17 @@ use cm_isa::convention::{RA, ZERO};
 use cm_isa::{Instr, encode};
 use cm_text::{List, Memory};
 use std::alloc::Global;
+
+/// The words of instructions, one for each.
+pub(crate) fn assemble_code(alloc: Global, code: &[Instr]) -> Result<List<u32>, Memory>
+    ensures { IfOk result (λ words. AreWordsOf words code.now) }
+{
+    let mut words = List::new(alloc);
+    for instr in code {
+        words.push(encode(*instr))?;
+    }
+    Ok(words)
+}
 
 /// The instruction that a word is at an address.
 fn place(word: Word, address: u32) -> Instr

@@ -1,25 +1,27 @@
-//! The image of a program, with what the layers above want to know of it.
+//! The build of a program: its image, with what the layers above want to know of it.
 #![tactic(auto)]
 
 ghost use Rattle.std.specs.Prelude.{◌≡◌, ◌+◌, ◌*◌, ◌<◌, ◌≤◌, ◌^◌, ◌%◌, ◌++◌, length, IfOk, ℕ, Err};
 ghost use Rattle.cm_isa.specs.Address.{AreWordsOf};
 ghost use Rattle.cm_gen.specs.Image as image;
+ghost use Rattle.cm_gen.specs.Build.{IsPage, IsBuild, max_image_words};
 ghost use Rattle.cm_gen.specs.Fits as fits;
 ghost use Rattle.cm_gen.specs.Builder as builder;
 ghost use Rattle.cm_gen.specs.Part.{laid};
 ghost use Rattle.cm_gen.specs.declared.making.GenRefusal.TheVariants as refusal;
 ghost use Rattle.cm_syntax.specs.Limit.{max_functions};
 
+use crate::build::Build;
 use crate::builder::CodeBuilder;
-use crate::first::assemble_code;
 use crate::form::Form;
-use crate::front::{Front, table};
+use crate::front::{Front, end_service, frames, parameters, table};
 use crate::function_code::{functions, program_code};
-use crate::laying::lay;
-use crate::pattern::service;
+use crate::laying::{assemble_code, lay};
+use cm_asm::Image;
 use cm_syntax::{Checked, Program};
 use cm_text::{List, Memory};
 use std::alloc::Global;
+use std::snapshot::Snapshot;
 
 /// How many words the code of the functions has that aren't marked `cilk`.
 fn serial_size(alloc: Global, page: u32, value: &Program) -> Result<usize, Memory>
@@ -58,7 +60,7 @@ fn front(
 {
     let start = 8 + 4 * value.functions.len() as u32;
     let mut code = List::new(alloc);
-    service(&mut code, 0)?;
+    end_service(&mut code)?;
     let mut front = Front {
         entries: List::new(alloc),
         code,
@@ -89,37 +91,50 @@ fn join(alloc: Global, front: &Front, code: &CodeBuilder, start: u32) -> Result<
     Ok(words)
 }
 
-/// The words of a program's image, by the code of its functions.
-pub(crate) fn image_words(
+/// The build of a program, by the code of its functions.
+#[tactic(auto, using(crate::proofs::MakingLaw::fits_of, crate::proofs::MakingLaw::few_of))]
+fn build_of(
     alloc: Global,
+    program: &Checked,
     form: Form,
     page: u32,
-    value: &Program,
     code: &CodeBuilder,
-) -> Result<List<u32>, Memory>
-    requires fits { fits.FunctionsFit value.now.functions }
-    requires few { length value.now.functions ≤ max_functions }
+) -> Result<Build, Memory>
     requires page { page ≤ 2 ^ 16 }
-    requires code { code.now ≡ image.program_code value.now form page }
-    requires length { length code.now ≤ 200000 }
+    requires code { code.now ≡ image.program_code program.now form page }
+    requires length { length code.now ≤ max_image_words }
     requires calls { builder.AreCallsWithin (2 ^ 16) code.now }
-    requires room { image.HaveRoom form page (image.functions_start value.now) (image.serial_end value.now page) value.now.functions }
-    ensures { IfOk result (λ words. AreWordsOf words (image.image_of value.now form page)) }
+    requires room { image.HaveRoom form page (image.functions_start program.now) (image.serial_end program.now page) program.now.functions }
+    ensures { IfOk result (λ build. IsBuild program.now form page build) }
 {
-    let start = 8 + 4 * value.functions.len() as u32;
+    let value = program.program();
+    let list = value.functions.items();
+    let start = 8 + 4 * list.len() as u32;
     let serial_end = start + 4 * serial_size(alloc, page, value)? as u32;
     let front = front(alloc, form, page, serial_end, value)?;
     let words = join(alloc, &front, code, start)?;
-    Ok(words)
+    let frames = frames(alloc, list)?;
+    let parameters = parameters(alloc, list)?;
+    Ok(Build {
+        image: Image { words },
+        form,
+        page,
+        main: value.main,
+        entries: front.into_entries(),
+        frames,
+        parameters,
+        serial_end,
+        made: Snapshot::of(program),
+    })
 }
 
-/// Why no image is made.
+/// Why no build is made.
 #[derive(Clone, Copy, Debug, PartialEq, Eq)]
 pub enum GenRefusal {
     /// The image would have so many words, which are more than 200,000.
     Long {
         /// The words that it would have.
-        words: u64,
+        words: u32,
     },
     /// There was no memory left.
     Memory,
@@ -133,25 +148,26 @@ impl From<Memory> for GenRefusal {
     }
 }
 
-/// The words of a checked program's image, in this build and with pages of so many bytes.
+/// The build of a checked program, in this form and with pages of so many bytes.
+///
+/// `Long` comes only where the image would have more than 200,000 words, and no build has more. Its time grows as the
+/// words of the image do.
 #[tactic(auto, using(crate::proofs::MakingLaw::fits_of, crate::proofs::MakingLaw::few_of, crate::proofs::WithinLaw::sound_calls, crate::proofs::ImageLaw::room_of))]
-pub(crate) fn make_words(
-    alloc: Global,
-    program: &Checked,
-    form: Form,
-    page: u32,
-) -> Result<List<u32>, GenRefusal>
-    requires page { page ≤ 2 ^ 16 }
-    ensures made { IfOk result (λ words. AreWordsOf words (image.image_of program.now form page)) }
+pub fn make(alloc: Global, program: &Checked, form: Form, page: u32) -> Result<Build, GenRefusal>
+    requires page { IsPage page }
+    ensures made { IfOk result (λ build. IsBuild program.now form page build) }
+    ensures short { IfOk result (λ build. length (image.image_of program.now form page) ≤ max_image_words) }
     ensures long { (words : ℕ) → result ≡ Err (refusal.Long words)
-        → (words ≡ 2 + length program.now.functions + length (image.program_code program.now form page)) × (200000 < words) }
+        → (words ≡ length (image.image_of program.now form page)) × (max_image_words < words) }
 {
     let value = program.program();
     let code = program_code(alloc, form, page, value)?;
     let words = 2 + value.functions.len() as u64 + code.size();
     if words > 200_000 {
-        return Err(GenRefusal::Long { words });
+        return Err(GenRefusal::Long {
+            words: words as u32,
+        });
     }
-    let made = image_words(alloc, form, page, value, &code)?;
-    Ok(made)
+    let build = build_of(alloc, program, form, page, &code)?;
+    Ok(build)
 }

@@ -1,7 +1,7 @@
 //! Single statements and programs worked out by hand, with which the definitions of the code have to agree. The
 //! functions do nothing: their contracts are the rows.
 
-ghost use Rattle.std.specs.Prelude.{◌≡◌, pos, Some, None, [], ◌∷◌, ◌++◌, length};
+ghost use Rattle.std.specs.Prelude.{◌≡◌, pos, None, [], ◌∷◌, ◌++◌, length};
 ghost use Rattle.cm_isa.specs.Address.{AreWordsOf};
 ghost use Rattle.cm_isa.specs.Bits.{minus};
 ghost use Rattle.cm_isa.specs.Operation.{ecall};

@@ -10,12 +10,12 @@ ghost use Rattle.cm_gen.specs.Expression as expression;
 ghost use Rattle.cm_gen.specs.Part.{straight};
 
 use crate::builder::CodeBuilder;
+use crate::immediate::{high_part, is_near, low_part};
 use crate::instruction::{
     add, addi, and, beq, bltu, bne, div, ecall, lui, lw, mul, or, rem, sll, slli, slt, sltiu, sltu,
     sra, sub, sw, xor, xori,
 };
 use crate::layout::Layout;
-use crate::pattern::{high_part, is_near, low_part};
 use cm_isa::Instr;
 use cm_isa::convention::{FP, HELP, LEFT, RESULT, SERVICE, TICKS, VALUE, ZERO};
 use cm_syntax::{Op, Slot};

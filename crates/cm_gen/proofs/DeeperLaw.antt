@@ -1,0 +1,105 @@
+-- The frames below the last one: what is said of them is the same with the last one and without it.
+use Rattle.std.proofs.Common.{◌≡◌, ℕ, zero, suc, ◌-◌, ◌*◌, ◌<◌, ◌≤◌, List, [], ◌∷◌, length, Option, None, Some, refl, sym, ap, ◌∙◌, subst, arith, rules}
+use Rattle.std.specs.Prelude.{IsSome, slice_get}
+use Rattle.cm_isa.specs.Machine.{Mapped}
+use Rattle.cm_isa.specs.Run.{Extends}
+use Rattle.cm_syntax.specs.declared.stmt.Slot.{Slot}
+use Rattle.cm_syntax.specs.declared.stmt.Slot.TheVariants as slot
+use Rattle.cm_syntax.specs.declared.stmt.Program.{Program}
+use Rattle.cm_syntax.specs.Stack.{Cell, absent, unset, present, Reference, Stack, Argument, word, slice}
+use Rattle.cm_syntax.specs.Rest.{Item, apply, arguments, pass, store, end, Control}
+use Rattle.cm_syntax.specs.Step.{top}
+use Rattle.cm_meaning.specs.TypedState.{slots_at}
+use Rattle.cm_gen.specs.Standing.{Frame, used, slots_here}
+use Rattle.cm_gen.specs.FrameWord.{word_number, address_at, word_address, cell_in, cell_at, slice_cell, value_cell, HasCell, HasArguments, Kept, row_in, row_of, reference_address}
+use Rattle.cm_gen.specs.Formed.{IsPart, Formed}
+use Rattle.cm_gen.proofs.FrameWordLaw.{at_before, slots_before, words_before, IsWord}
+
+module _ (program : Program) (page : ℕ) where
+  -- a map with more words
+  pub extends_cell : (cell : Cell ℕ) (v w : Mapped) (a : ℕ) → Extends v w → HasCell program page cell (v a) → HasCell program page cell (w a)
+  extends_cell absent v w a more h = tt
+  extends_cell unset v w a more h = extends_some (v a) refl h
+    where
+      extends_some : (found : Option ℕ) → v a ≡ found → IsSome found → IsSome (w a)
+      extends_some (Some n) e h = subst (λ (o : Option ℕ). IsSome o) (sym (more a n e)) h
+      extends_some None e h = absurd (none_is h)
+        where
+          none_is : IsSome {T = ℕ} None → ⊥
+          none_is h = search rules
+  extends_cell (present n) v w a more h = more a n h
+
+  pub deeper_address : (F : Frame) (calls : List ℕ) (frames : List Frame) (d n : ℕ) → length calls ≡ length frames → d < length calls → word_address (F ∷ frames) d n ≡ word_address frames d n
+  deeper_address F calls frames d n same l = ap (λ a. a - 4 * n) (at_before d (length frames) F.address (address_at frames d) (subst (λ n. d < n) same l))
+
+  pub deeper_word : (f : ℕ) (calls : List ℕ) (d n : ℕ) → IsWord program page calls d n → IsWord program page (f ∷ calls) d n
+  deeper_word f calls d n x = record { deep = let l = x.deep in omega (arith, l); low = x.low; high = subst (λ m. n ≤ m) (sym (words_before program page f calls d x.deep)) x.high }
+
+  pub shallow_word : (f : ℕ) (calls : List ℕ) (d n : ℕ) → d < length calls → IsWord program page (f ∷ calls) d n → IsWord program page calls d n
+  shallow_word f calls d n deep x = record { deep = deep; low = x.low; high = subst (λ m. n ≤ m) (words_before program page f calls d deep) x.high }
+
+  pub deeper_reference : (f : ℕ) (F : Frame) (calls : List ℕ) (frames : List Frame) (r : Reference) → length calls ≡ length frames → r.depth < length calls
+      → reference_address program page (f ∷ calls) (F ∷ frames) r ≡ reference_address program page calls frames r
+  deeper_reference f F calls frames r same l =
+      deeper_address F calls frames r.depth _ same l ∙ ap (λ s. word_address frames r.depth (word_number s r.slot r.start)) (slots_before program page f calls r.depth l)
+
+  -- what stands in the words of a deeper slot, where it is the same in two stacks and refers to no frame above
+  pub deeper_cell : (f : ℕ) (F : Frame) (calls : List ℕ) (frames : List Frame) (g h : Stack) (d s i : ℕ) → length calls ≡ length frames → d < length calls
+      → g.words d s i ≡ h.words d s i → g.references d s ≡ h.references d s → ((r : Reference) → h.references d s ≡ present r → r.depth < length calls)
+      → cell_at program page (f ∷ calls) (F ∷ frames) g d s i ≡ cell_at program page calls frames h d s i
+  deeper_cell f F calls frames g h d s i same deep words references live =
+      ap (λ slots. cell_in program page (slice_get slots s) (f ∷ calls) (F ∷ frames) g d s i) (slots_before program page f calls d deep) ∙ by_kind (slice_get (slots_at program calls d) s)
+    where
+      by_cell : (cell : Cell Reference) (i : ℕ) → h.references d s ≡ cell → slice_cell program page (f ∷ calls) (F ∷ frames) cell i ≡ slice_cell program page calls frames cell i
+      by_cell absent i e = refl
+      by_cell unset i e = refl
+      by_cell (present r) zero e = ap present (deeper_reference f F calls frames r same (live r e))
+      by_cell (present r) (suc i) e = refl
+
+      by_kind : (kind : Option Slot) → cell_in program page kind (f ∷ calls) (F ∷ frames) g d s i ≡ cell_in program page kind calls frames h d s i
+      by_kind None = ap (λ c. value_cell program page c) words
+      by_kind (Some slot.Scalar) = ap (λ c. value_cell program page c) words
+      by_kind (Some (slot.Array n)) = ap (λ c. value_cell program page c) words
+      by_kind (Some slot.Slice) = ap (λ c. slice_cell program page (f ∷ calls) (F ∷ frames) c i) references ∙ by_cell (h.references d s) i refl
+
+  -- the running function's depth is one of the frames
+  pub top_low : (calls : List ℕ) → 0 < length calls → top calls < length calls
+  top_low [] some = absurd (omega (arith, some))
+  top_low (f ∷ calls) some = omega arith
+
+  -- the words of a row are the same where the references are
+  pub same_row : (calls : List ℕ) (g h : Stack) (a : ℕ) → ((s : ℕ) → 0 < length calls → g.references (top calls) s ≡ h.references (top calls) s) → row_of program page calls g a ≡ row_of program page calls h a
+  same_row [] g h a same = refl
+  same_row (f ∷ calls) g h a same = by_kind (slice_get (slots_here program (f ∷ calls)) a)
+    where
+      by_kind : (kind : Option Slot) → row_in program page kind (f ∷ calls) g a ≡ row_in program page kind (f ∷ calls) h a
+      by_kind None = refl
+      by_kind (Some slot.Scalar) = refl
+      by_kind (Some (slot.Array n)) = refl
+      by_kind (Some slot.Slice) = same a (omega arith)
+
+  -- a reference of a formed state is to its own frame or to one before it
+  pub refers_below : (limit : ℕ) (c : Control) (h : Stack) (d s : ℕ) (r : Reference) → Formed program page limit c h → h.references d s ≡ present r → r.depth ≤ d
+  refers_below limit c h d s r x e = (x.typed.refers d s r (by_part (x.is_part.references d s) e)).0
+    where
+      by_part : {a b : Cell Reference} → IsPart a b → a ≡ present r → b ≡ present r
+      by_part {a = absent} p e = absurd (cc e)
+      by_part {a = unset} p e = absurd (cc e)
+      by_part {a = present v} p e = p ∙ e
+
+  arguments_extend : (calls : List ℕ) (frames : List Frame) (v w : Mapped) (j : ℕ) (ws : List Argument) → Extends v w → HasArguments program page calls frames v j ws → HasArguments program page calls frames w j ws
+  arguments_extend calls frames v w j [] more x = tt
+  arguments_extend calls frames v w j (word z ∷ ws) more x = (more _ _ x.0, x.1, arguments_extend calls frames v w j ws more x.2)
+  arguments_extend calls frames v w j (slice r ∷ ws) more x = (more _ _ x.0, more _ _ x.1, arguments_extend calls frames v w j ws more x.2)
+
+  -- what a rest knows stays known with more words
+  pub kept_extends : (k : List Item) (calls : List ℕ) (frames : List Frame) (h : Stack) (v w : Mapped) → Extends v w → Kept program page k calls frames h v → Kept program page k calls frames h w
+  kept_extends [] calls frames h v w more x = tt
+  kept_extends (apply o a ∷ k) calls frames h v w more x = (more _ _ x.0, x.1, kept_extends k calls frames h v w more x.2)
+  kept_extends (arguments u f ws row ∷ k) calls frames h v w more x = (arguments_extend calls frames v w (used k) ws more x.0, kept_extends k calls frames h v w more x.1)
+  kept_extends (pass u f ws row ∷ k) calls frames h v w more x = (arguments_extend calls frames v w (used k) ws more x.0, kept_extends k calls frames h v w more x.1)
+  kept_extends (store a i o ∷ k) calls frames h v w more x = (record { row = x.0.row; row_is = x.0.row_is; address = more _ _ x.0.address }, kept_extends k calls frames h v w more x.1)
+  kept_extends (end ∷ k) [] frames h v w more x = absurd x
+  kept_extends (end ∷ k) (f ∷ calls) [] h v w more x = absurd x
+  kept_extends (end ∷ k) (f ∷ calls) (F ∷ frames) h v w more x = (more _ _ x.0, more _ _ x.1, kept_extends k calls frames h v w more x.2)
+  kept_extends (_ ∷ k) calls frames h v w more x = kept_extends k calls frames h v w more x

@@ -1,0 +1,181 @@
+-- What the laws of the items share: a machine that goes from one state to the next, and the choices of a step.
+use Rattle.std.proofs.Common.{◌≡◌, ℕ, ◌+◌, List, Option, None, Some, refl, sym, ◌∙◌, subst}
+use Rattle.std.specs.Prelude.{Bool, true, false, ◌==◌, if◌then◌else◌, ℤ, FitsSigned}
+use Rattle.std.specs.Int.{w32}
+use Rattle.cm_isa.specs.declared.convention.TheConstants as reg
+use Rattle.cm_isa.specs.Machine.{Machine, Mapped, Code}
+use Rattle.cm_isa.specs.Run.{ComesTo}
+use Rattle.cm_syntax.specs.declared.expr.Op.{Op}
+use Rattle.cm_syntax.specs.declared.stmt.Program.{Program}
+use Rattle.cm_syntax.specs.Label.{silent, traps, stuck}
+use Rattle.cm_syntax.specs.Trap as kind
+use Rattle.cm_syntax.specs.Operator.{divides}
+use Rattle.cm_syntax.specs.Stack.{Cell, absent, unset, present, Stack}
+use Rattle.cm_syntax.specs.Rest.{Item, Hand, idle, holds, returned, entering, framing, Control, control}
+use Rattle.cm_syntax.specs.Step.{Move, when_present, when_held, when_value, when_result, when_some}
+use Rattle.cm_meaning.specs.Activation.{end_count}
+use Rattle.cm_gen.specs.declared.form.Form.{Form}
+use Rattle.cm_gen.specs.Standing.{Frame, LeadsTo, Coded}
+use Rattle.cm_gen.specs.FrameWord.{bits, Holds, Kept, HasOwn}
+use Rattle.cm_gen.specs.StandsFor.{Spot, stays, Placed, ExactAt, stands, Arrives, LeadsFrom}
+use Rattle.cm_gen.proofs.Step.{comes_on}
+use Rattle.cm_gen.proofs.StandingLaw.{leads_map}
+use Rattle.cm_gen.proofs.PatternLaw.{Sets, Puts}
+
+-- the registers that only calls and returns change, and 0
+pub record SameRegisters (r t : ℕ → ℕ) : Type 0 where
+  pub zero_is : t reg.ZERO ≡ r reg.ZERO
+  pub sp : t reg.SP ≡ r reg.SP
+  pub account : t reg.ACCOUNT ≡ r reg.ACCOUNT
+  pub ticks : t reg.TICKS ≡ r reg.TICKS
+  pub pointer : t reg.FP ≡ r reg.FP
+
+pub same_self : (r : ℕ → ℕ) → SameRegisters r r
+same_self r = record { zero_is = refl; sp = refl; account = refl; ticks = refl; pointer = refl }
+
+pub same_after : {r s t : ℕ → ℕ} → SameRegisters r s → SameRegisters s t → SameRegisters r t
+same_after a b = record { zero_is = b.zero_is ∙ a.zero_is; sp = b.sp ∙ a.sp; account = b.account ∙ a.account; ticks = b.ticks ∙ a.ticks; pointer = b.pointer ∙ a.pointer }
+
+-- behind a pattern that sets another register: at a numeral the tests are `refl`
+pub same_sets : {r v bytes : ℕ} {m t : Machine} → (reg.ZERO == r) ≡ false → (reg.SP == r) ≡ false → (reg.ACCOUNT == r) ≡ false → (reg.TICKS == r) ≡ false → (reg.FP == r) ≡ false
+    → Sets r v bytes m t → SameRegisters m.registers t.registers
+same_sets a b c d e does = record {
+  zero_is = does.kept reg.ZERO a;
+  sp = does.kept reg.SP b;
+  account = does.kept reg.ACCOUNT c;
+  ticks = does.kept reg.TICKS d;
+  pointer = does.kept reg.FP e;
+}
+
+-- behind a pattern that stores a register
+pub same_puts : {a v bytes : ℕ} {m t : Machine} → Puts a v bytes m t → SameRegisters m.registers t.registers
+same_puts does = record {
+  zero_is = does.kept reg.ZERO refl;
+  sp = does.kept reg.SP refl;
+  account = does.kept reg.ACCOUNT refl;
+  ticks = does.kept reg.TICKS refl;
+  pointer = does.kept reg.FP refl;
+}
+
+module _ (program : Program) (form : Form) (page : ℕ) (input : List ℤ) (code : Code) where
+  abbrev exact : Spot → (left : ℕ) → Control → Stack → Machine → Type 0
+  exact = ExactAt program form page input code
+
+  abbrev leads : Spot → (left : ℕ) → (calls : List ℕ) → Stack → Move → Machine → Type 0
+  leads = LeadsFrom program form page input code
+
+  abbrev kept : List Item → List ℕ → List Frame → Stack → Mapped → Type 0
+  kept = Kept program page
+
+  abbrev placed : Hand → List Item → List ℕ → List Frame → (ℕ → ℕ) → ℕ → Type 0
+  placed = Placed program form page input code
+
+  -- ---- the next state
+
+  -- with the same frames: the slots, what is kept, and the place are said anew
+  pub exact_with : {spot : Spot} {left : ℕ} {calls : List ℕ} {account : ℕ} {hand : Hand} {k : List Item} {h : Stack} {m : Machine} (x : exact spot left (control calls account hand k) h m)
+      (now : Hand) (l : List Item) (g : Stack) (t : Machine) → SameRegisters m.registers t.registers
+      → Holds program page calls spot.frames g t.words → kept l calls spot.frames g t.words → HasOwn program page (end_count l) calls spot.frames t.words
+      → LeadsTo code (placed now l calls spot.frames t.registers) t.counter
+      → exact spot left (control calls account now l) g t
+  exact_with x now l g t same slots keeps own here = record {
+    frames = x.frames;
+    may_stand = x.may_stand;
+    slots = slots;
+    kept = keeps;
+    own = own;
+    zero_is = same.zero_is ∙ x.zero_is;
+    low_is = same.sp ∙ x.low_is;
+    account_is = same.account ∙ x.account_is;
+    left_is = same.ticks ∙ x.left_is;
+    pointer_is = same.pointer ∙ x.pointer_is;
+    placed = here;
+  }
+
+  -- with the same words too
+  pub exact_same : {spot : Spot} {left : ℕ} {calls : List ℕ} {account : ℕ} {hand : Hand} {k : List Item} {h : Stack} {m : Machine} (x : exact spot left (control calls account hand k) h m)
+      (now : Hand) (l : List Item) (t : Machine) → SameRegisters m.registers t.registers → t.words ≡ m.words
+      → kept l calls spot.frames h m.words → end_count l ≡ end_count k → LeadsTo code (placed now l calls spot.frames t.registers) t.counter
+      → exact spot left (control calls account now l) h t
+  exact_same {spot = spot} {calls = calls} {k = k} {h = h} x now l t same words keeps count here =
+      exact_with x now l h t same
+      (subst (λ w. Holds program page calls spot.frames h w) (sym words) x.slots)
+      (subst (λ w. Kept program page l calls spot.frames h w) (sym words) keeps)
+      (subst (λ n. HasOwn program page n calls spot.frames t.words) (sym count) (subst (λ w. HasOwn program page (end_count k) calls spot.frames w) (sym words) x.own))
+      here
+
+  -- ---- where a step arrives
+
+  pub leads_to : {spot : Spot} {left : ℕ} {calls : List ℕ} {h : Stack} {move : Move} {m : Machine} (n : ℕ) (t : Machine) → ComesTo code n m t
+      → Arrives program form page input code spot left calls h move t → leads spot left calls h move m
+  leads_to n t comes arrives = record { count = n; last = t; comes_to = comes; arrives = arrives }
+
+  -- some instructions, and then what leads on
+  pub leads_after : {spot : Spot} {left : ℕ} {calls : List ℕ} {h : Stack} {move : Move} {m t : Machine} (n : ℕ) → ComesTo code n m t
+      → leads spot left calls h move t → leads spot left calls h move m
+  leads_after {m = m} {t = t} n comes on = leads_to (n + on.count) on.last (comes_on code n on.count m t on.last comes on.comes_to) on.arrives
+
+  pub leads_stuck : {spot : Spot} {left : ℕ} {calls : List ℕ} {h : Stack} {m : Machine} → leads spot left calls h stuck m
+  leads_stuck {m = m} = leads_to 0 m refl tt
+
+  -- a silent step, with no frame moved
+  pub leads_on : {spot : Spot} {left : ℕ} {calls : List ℕ} {h : Stack} {c : Control} {g : Stack} {m : Machine} (n : ℕ) (t : Machine) → ComesTo code n m t
+      → exact spot left c g t → leads spot left calls h (silent c g) m
+  leads_on {spot = spot} n t comes x = leads_to n t comes (stands (spot, stays refl, x))
+
+  -- no instruction, and on with another rest
+  pub goes_behind : {spot : Spot} {left : ℕ} {calls : List ℕ} {account : ℕ} {hand : Hand} {k : List Item} {h : Stack} {m : Machine} (x : exact spot left (control calls account hand k) h m)
+      (l : List Item) → kept l calls spot.frames h m.words → end_count l ≡ end_count k → LeadsTo code (Coded program form page code l calls spot.frames) m.counter
+      → leads spot left calls h (silent (control calls account idle l) h) m
+  goes_behind {m = m} x l keeps count coded = leads_on 0 m refl (exact_same x idle l m (same_self m.registers) refl keeps count coded)
+
+  pub goes_on : {spot : Spot} {left : ℕ} {calls : List ℕ} {account : ℕ} {hand : Hand} {k : List Item} {h : Stack} {m : Machine} (x : exact spot left (control calls account hand k) h m)
+      (l : List Item) → kept l calls spot.frames h m.words → end_count l ≡ end_count k → Coded program form page code l calls spot.frames m.counter
+      → leads spot left calls h (silent (control calls account idle l) h) m
+  goes_on x l keeps count coded = goes_behind x l keeps count (0, coded)
+
+  -- some instructions put a value into VALUE, and change no word
+  pub gives_value : {spot : Spot} {left : ℕ} {calls : List ℕ} {account : ℕ} {hand : Hand} {k : List Item} {h : Stack} {m : Machine} (x : exact spot left (control calls account hand k) h m)
+      (l : List Item) (v : ℤ) (n : ℕ) (t : Machine) (p : ℕ) → ComesTo code n m t → SameRegisters m.registers t.registers → t.words ≡ m.words → t.counter ≡ p
+      → t.registers reg.VALUE ≡ bits v → FitsSigned w32 v → kept l calls spot.frames h m.words → end_count l ≡ end_count k → LeadsTo code (Coded program form page code l calls spot.frames) p
+      → leads spot left calls h (silent (control calls account (holds v) l) h) m
+  gives_value {spot = spot} {calls = calls} x l v n t p comes same words place value fits keeps count coded =
+      leads_on n t comes (exact_same x (holds v) l t same words keeps count
+      (leads_map code _ (placed (holds v) l calls spot.frames t.registers) t.counter (subst (LeadsTo code (Coded program form page code l calls spot.frames)) (sym place) coded) (λ q c. (value, fits, c))))
+
+  -- ---- the choices of a step: where what it needs isn't there, nothing is said
+
+  pub by_value : {spot : Spot} {left : ℕ} {calls : List ℕ} {h : Stack} {m : Machine} (hand : Hand) (f : ℤ → Move) → ((v : ℤ) → hand ≡ holds v → leads spot left calls h (f v) m)
+      → leads spot left calls h (when_value hand f) m
+  by_value idle f law = leads_stuck
+  by_value (holds v) f law = law v refl
+  by_value (returned v) f law = leads_stuck
+  by_value (entering g ws) f law = leads_stuck
+  by_value (framing g ws) f law = leads_stuck
+
+  pub by_present : {A : Type 0} {spot : Spot} {left : ℕ} {calls : List ℕ} {h : Stack} {m : Machine} (cell : Cell A) (f : A → Move) → ((v : A) → cell ≡ present v → leads spot left calls h (f v) m)
+      → leads spot left calls h (when_present cell f) m
+  by_present absent f law = leads_stuck
+  by_present unset f law = leads_stuck
+  by_present (present v) f law = law v refl
+
+  pub by_held : {A : Type 0} {spot : Spot} {left : ℕ} {calls : List ℕ} {h : Stack} {m : Machine} (cell : Cell A) (move : Move) → ((cell ≡ absent → ⊥) → leads spot left calls h move m)
+      → leads spot left calls h (when_held cell move) m
+  by_held absent move law = leads_stuck
+  by_held unset move law = law (λ e. cc)
+  by_held (present v) move law = law (λ e. cc)
+
+  pub by_result : {spot : Spot} {left : ℕ} {calls : List ℕ} {h : Stack} {m : Machine} (o : Op) (result : Option ℤ) (f : ℤ → Move)
+      → ((v : ℤ) → result ≡ Some v → leads spot left calls h (f v) m) → (result ≡ None → divides o ≡ true → leads spot left calls h (traps kind.Divide) m)
+      → leads spot left calls h (when_result o result f) m
+  by_result o (Some v) f law trap = law v refl
+  by_result {spot = spot} {left = left} {calls = calls} {h = h} {m = m} o None f law trap = by_bool (divides o) (λ e. trap refl e)
+    where
+      by_bool : (b : Bool) → (b ≡ true → leads spot left calls h (traps kind.Divide) m) → leads spot left calls h (if b then traps kind.Divide else stuck) m
+      by_bool true f = f refl
+      by_bool false f = leads_stuck
+
+  pub by_some : {spot : Spot} {left : ℕ} {calls : List ℕ} {h : Stack} {m : Machine} (result : Option ℤ) (f : ℤ → Move) → ((v : ℤ) → result ≡ Some v → leads spot left calls h (f v) m)
+      → leads spot left calls h (when_some result f) m
+  by_some None f law = leads_stuck
+  by_some (Some v) f law = law v refl
