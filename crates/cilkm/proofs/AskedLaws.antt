@@ -9,30 +9,33 @@ use Rattle.cilkm.specs.declared.command.Command.{Command}
 use Rattle.cilkm.specs.declared.command.Name.{Name}
 use Rattle.cilkm.specs.declared.command.Name.TheVariants as name
 use Rattle.cilkm.specs.declared.setting.Setting.{Setting}
+use Rattle.cilkm.specs.declared.setting.Key.TheVariants as key
 use Rattle.cilkm.specs.Setting.{AreSettings, AreAllowed}
 use Rattle.cilkm.specs.Asked.{texts, name_text, name_of, command_with, Asks, AsksOrNot, IsWithin}
-use Rattle.cilkm.proofs.SettingLaws.{one_list, limits_within}
+use Rattle.cilkm.proofs.SettingLaws.{one_list, number_fits, limits_within}
 
 -- ---- names
 
 name_of-name_text : (found : Name) → name_of (name_text found) ≡ Some found
 name_of-name_text name.Check = refl
+name_of-name_text name.Build = refl
 name_of-name_text name.Serial = refl
 name_of-name_text name.Mean = refl
 
 -- a word that has a name is this name's text
 name_is : (word : List ℕ) (found : Name) → name_of word ≡ Some found → word ≡ name_text found
-name_is word found e = by (bytes_eq word (codes "check")) (bytes_eq word (codes "serial")) (bytes_eq word (codes "mean")) refl refl refl e
+name_is word found e = by (bytes_eq word (codes "check")) (bytes_eq word (codes "build")) (bytes_eq word (codes "serial")) (bytes_eq word (codes "mean")) refl refl refl refl e
   where
     one : (other : Name) → bytes_eq word (name_text other) ≡ true → Some other ≡ Some found → word ≡ name_text found
     one other test e = let same : other ≡ found = cc in (bytes_eq-Decides word (name_text other)).0 test ∙ ap name_text same
 
-    by : (check serial mean : Bool) → bytes_eq word (codes "check") ≡ check → bytes_eq word (codes "serial") ≡ serial → bytes_eq word (codes "mean") ≡ mean
-        → (if check then Some name.Check else if serial then Some name.Serial else if mean then Some name.Mean else None) ≡ Some found → word ≡ name_text found
-    by true serial mean p q r e = one name.Check p e
-    by false true mean p q r e = one name.Serial q e
-    by false false true p q r e = one name.Mean r e
-    by false false false p q r e = cc
+    by : (check build serial mean : Bool) → bytes_eq word (codes "check") ≡ check → bytes_eq word (codes "build") ≡ build → bytes_eq word (codes "serial") ≡ serial → bytes_eq word (codes "mean") ≡ mean
+        → (if check then Some name.Check else if build then Some name.Build else if serial then Some name.Serial else if mean then Some name.Mean else None) ≡ Some found → word ≡ name_text found
+    by true build serial mean p q r s e = one name.Check p e
+    by false true serial mean p q r s e = one name.Build q e
+    by false false true mean p q r s e = one name.Serial r e
+    by false false false true p q r s e = one name.Mean s e
+    by false false false false p q r s e = cc
 
 -- the name that the first word is
 abbrev first_name : List (List ℕ) → Option Name
@@ -60,13 +63,14 @@ one_command words None (Some b) x y = absurd (x b y)
 one_command words (Some a) None x y = absurd (y a x)
 one_command words (Some a) (Some b) x y = ap Some (one_asked words a b x y)
 
--- the limits of a command with allowed settings are in their ranges
+-- what a command has of allowed settings is in its range
 pub within : (found : Name) (settings : List Setting) (command : Command) → AreAllowed found settings → command ≡ command_with found settings → IsWithin command
 within found settings command allowed is = subst IsWithin (sym is) (by found allowed)
   where
     by : (found : Name) → AreAllowed found settings → IsWithin (command_with found settings)
     by name.Check allowed = tt
-    by name.Serial allowed = tt
+    by name.Build allowed = number_fits name.Build key.Page settings allowed
+    by name.Serial allowed = limits_within name.Serial settings allowed
     by name.Mean allowed = limits_within name.Mean settings allowed
 
 -- ---- the words, by the slices of the code

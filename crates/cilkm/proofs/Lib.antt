@@ -1,9 +1,8 @@
 pub mod CutLaws
-pub mod FirstLaws
 pub mod PieceLaws
+pub mod BuiltLaws
 pub mod SettingLaws
 pub mod AskedLaws
 pub mod SourceLaws
-pub mod HartLaws
-pub mod AcceptedLaws
+pub mod StepsLaws
 pub mod StillLaws

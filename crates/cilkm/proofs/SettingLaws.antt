@@ -14,7 +14,7 @@ use Rattle.cm_meaning.specs.Ended.{limits_of}
 use Rattle.cm_meaning.specs.Range.{HasRanges}
 use Rattle.cilkm.specs.declared.command.Name.{Name}
 use Rattle.cilkm.specs.declared.setting.Key.{Key}
-use Rattle.cilkm.specs.declared.setting.Key.TheVariants.{Ticks, Stack, Page}
+use Rattle.cilkm.specs.declared.setting.Key.TheVariants.{Ticks, Stack, Page, Serial, Stat}
 use Rattle.cilkm.specs.declared.setting.Setting.{Setting}
 use Rattle.cilkm.specs.declared.setting.Given.{Given}
 use Rattle.cilkm.specs.Asked.{texts}
@@ -27,6 +27,8 @@ key_of-key_text : (key : Key) → key_of (key_text key) ≡ Some key
 key_of-key_text Ticks = refl
 key_of-key_text Stack = refl
 key_of-key_text Page = refl
+key_of-key_text Serial = refl
+key_of-key_text Stat = refl
 
 -- no byte of the text is `=`
 abbrev HasNoEquals : List ℕ → Type 0
@@ -37,6 +39,8 @@ key_plain : (key : Key) → HasNoEquals (key_text key)
 key_plain Ticks = (λ e. omega (arith, e), (λ e. omega (arith, e), (λ e. omega (arith, e), (λ e. omega (arith, e), (λ e. omega (arith, e), tt)))))
 key_plain Stack = (λ e. omega (arith, e), (λ e. omega (arith, e), (λ e. omega (arith, e), (λ e. omega (arith, e), (λ e. omega (arith, e), tt)))))
 key_plain Page = (λ e. omega (arith, e), (λ e. omega (arith, e), (λ e. omega (arith, e), (λ e. omega (arith, e), tt))))
+key_plain Stat = (λ e. omega (arith, e), (λ e. omega (arith, e), (λ e. omega (arith, e), (λ e. omega (arith, e), tt))))
+key_plain Serial = (λ e. omega (arith, e), (λ e. omega (arith, e), (λ e. omega (arith, e), (λ e. omega (arith, e), (λ e. omega (arith, e), (λ e. omega (arith, e), tt))))))
 
 -- a text is parted at its first `=` in one way
 one_split : (a b c d : List ℕ) → HasNoEquals a → HasNoEquals c → a ++ 61 ∷ b ≡ c ++ 61 ∷ d → (a ≡ c) × (b ≡ d)
@@ -100,6 +104,8 @@ range_fits Stack number h = omega (arith, h.1)
 range_fits Page number (inl h) = omega (arith, h)
 range_fits Page number (inr (inl h)) = omega (arith, h)
 range_fits Page number (inr (inr h)) = omega (arith, h)
+range_fits Serial number h = omega (arith, h)
+range_fits Stat number h = omega (arith, h)
 
 pub same_key : (text : List ℕ) (a b : Key) → text ≡ key_text a → text ≡ key_text b → a ≡ b
 same_key text a b x y =
@@ -118,21 +124,29 @@ pub given_number-given_by : (key : Key) (settings : List Setting) → given_numb
 given_number-given_by Ticks settings = refl
 given_number-given_by Stack settings = refl
 given_number-given_by Page settings = refl
+given_number-given_by Serial settings = refl
+given_number-given_by Stat settings = refl
 
 with_one_more : (key : Key) (number : ℕ) (settings : List Setting) → with_number (given_by settings) key number ≡ given_by (record { key = key; number = number } ∷ settings)
 with_one_more Ticks number settings = refl
 with_one_more Stack number settings = refl
 with_one_more Page number settings = refl
+with_one_more Serial number settings = refl
+with_one_more Stat number settings = refl
 
 default_fits : (key : Key) → IsInRange key (default_number key)
 default_fits Ticks = (omega arith, omega arith)
 default_fits Stack = (omega arith, omega arith)
 default_fits Page = inr (inr refl)
+default_fits Serial = omega arith
+default_fits Stat = omega arith
 
 key_is : (a b : Key) → is_key a b ≡ true → a ≡ b
 key_is Ticks Ticks e = refl
 key_is Stack Stack e = refl
 key_is Page Page e = refl
+key_is Serial Serial e = refl
+key_is Stat Stat e = refl
 key_is _ _ e = cc
 
 -- ---- all words behind a command's name
@@ -238,7 +252,7 @@ module _ (command : Name) where
   no_setting words at word all e none are = let front = front_setting (at - 1) words word (drop at words) all e are in none front.0 front.2
 
   -- each number is in its range
-  number_fits : (key : Key) (settings : List Setting) → AreAllowed command settings → IsInRange key (number_of key settings)
+  pub number_fits : (key : Key) (settings : List Setting) → AreAllowed command settings → IsInRange key (number_of key settings)
   number_fits key [] allowed = default_fits key
   number_fits key (s ∷ more) allowed = by (is_key s.key key) refl (number_fits key more allowed.2)
     where

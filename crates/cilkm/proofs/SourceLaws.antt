@@ -1,11 +1,11 @@
 -- A source comes to one thing: a program, or a refusal.
-use Rattle.std.proofs.Common.{◌≡◌, ℕ, List, refl, sym, ap, ◌∙◌, subst, arith, inl, inr}
-use Rattle.std.specs.Prelude.{◌⊎◌, Option, Some, None, Result, Ok, Err, IfErr, IsErrAnd}
+use Rattle.std.proofs.Common.{◌≡◌, ℕ, ◌≤◌, List, length, refl, sym, ap, ◌∙◌, subst, arith, inl, inr}
+use Rattle.std.specs.Prelude.{◌⊎◌, Some, Result, Ok, Err, IfOk, IfErr, IsErrAnd}
 use Rattle.std.specs.List.{Contains}
 use Rattle.cm_syntax.specs.declared.stmt.Tree.{Tree}
 use Rattle.cm_syntax.specs.declared.stmt.Program.{Program}
 use Rattle.cm_syntax.specs.Refusal as text
-use Rattle.cm_syntax.specs.Fault.{Variant, Fault, IsNameAnswer, fault_at, faults, program_of}
+use Rattle.cm_syntax.specs.Fault.{Variant, Fault, IsNameAnswer, IsSoundProgram, fault_at, faults, program_of}
 use Rattle.cm_syntax.proofs.refusing.OneAnswer.{IsAnswer-one, IsNameAnswer-one}
 use Rattle.cm_syntax.proofs.machine.trace.OneTree.{IsSourceOf-one}
 use Rattle.cm_syntax.specs.Lending.{IsLentAmong, IsSameAmong}
@@ -15,13 +15,19 @@ use Rattle.cm_lend.specs.Answer.{IsAnswer as IsLendingAnswer, IsRefusalOf}
 use Rattle.cm_lend.specs.declared.refusal.LendRefusal.{LendRefusal}
 use Rattle.cm_lend.specs.declared.refusal.LendRefusal.TheVariants as lending
 use Rattle.cm_lend.proofs.AnswerLaw.{one_answer as one_lending_answer}
+use Rattle.cm_gen.specs.declared.build.Build.{Build as BuildOf}
+use Rattle.cm_gen.specs.declared.form.Form.{Form}
+use Rattle.cm_gen.specs.declared.form.Form.TheVariants as forms
+use Rattle.cm_gen.specs.Image.{image_of}
+use Rattle.cm_gen.proofs.BoundLaw.{source_bound}
+use Rattle.cilkm.specs.Built.{max_short_source, IsCompiled, IsImageOf, IsLong}
 use Rattle.cilkm.specs.declared.command.Command.{Command}
-use Rattle.cilkm.specs.declared.command.Command.TheVariants.{Check, Serial, Mean}
+use Rattle.cilkm.specs.declared.command.Command.TheVariants.{Check, Build, Serial, Mean}
 use Rattle.cilkm.specs.declared.refusal.Refusal.{Refusal}
 use Rattle.cilkm.specs.declared.refusal.Refusal.TheVariants as refusal
 use Rattle.cilkm.specs.declared.refusal.Stop.{Stop}
 use Rattle.cilkm.specs.declared.refusal.Stop.TheVariants as stop
-use Rattle.cilkm.specs.Source.{HasTree, IsMisnamed, HasProgram, HasAccepted, HasNoForm, IsRefused, IsRefusedBy, IsStopOf, IsStopOfProgram, stop_of_lending}
+use Rattle.cilkm.specs.Source.{HasTree, IsMisnamed, HasProgram, HasAccepted, HasLong, BuildsAs, CompilesAs, IsRefused, IsNotCompiled, IsRefusedBy, IsStopOf, IsStopOfBuild, stop_of_lending}
 
 HasTree-one : (source : List ℕ) (x y : Tree) → HasTree source x → HasTree source y → x ≡ y
 HasTree-one source x y a b = IsSourceOf-one source x y a.parses b.parses
@@ -51,12 +57,29 @@ accepted_or_refused source program at (refusal.Lent spawn) x y =
     x.accepted.lent at spawn (subst (λ (p : Program). IsLentAmong p.functions at spawn) (HasProgram-one source y.0 program y.1 x.named) y.2.named.lent)
 accepted_or_refused source program at refusal.Same x y =
     x.accepted.same at (subst (λ (p : Program). IsSameAmong p.functions at) (HasProgram-one source y.0 program y.1 x.named) y.2.same)
-accepted_or_refused source program at refusal.Later x y = y
+accepted_or_refused source program at refusal.Long x y = y
 
--- an accepted source is refused by `serial` only because its program isn't of the form
-pub accepted_and_refused : (source : List ℕ) (program : Program) (at : ℕ) (why : Refusal) → HasAccepted source program → IsRefusedBy Serial source at why → HasNoForm program
-accepted_and_refused source program at refusal.Later x y = subst HasNoForm (HasProgram-one source y.1.0 program y.1.1.named x.named) y.1.2
-accepted_and_refused source program at why x y = absurd (accepted_or_refused source program at why x y)
+-- an accepted source isn't compiled only because its image has too many words
+pub accepted_and_long : (source : List ℕ) (program : Program) (form : Form) (page at : ℕ) (why : Refusal) → HasAccepted source program
+    → IsNotCompiled form page source at why → (at ≡ 0) × (why ≡ refusal.Long) × IsLong program form page
+accepted_and_long source program form page at refusal.Long x y =
+    (y.0, refl, subst (λ (p : Program). IsLong p form page) (HasProgram-one source y.1.0 program y.1.1.named x.named) y.1.2)
+accepted_and_long source program form page at why x y = absurd (accepted_or_refused source program at why x y)
+
+-- the image is that of any program of the source
+pub image_at : (source : List ℕ) (program : Program) (form : Form) (page : ℕ) (words : List ℕ) → HasAccepted source program
+    → BuildsAs source form page words → IsImageOf program form page words
+image_at source program form page words x y =
+    subst (λ (p : Program). IsImageOf p form page words) (HasProgram-one source y.0 program y.1.named x.named) y.2
+
+-- the image of a short source isn't too long
+pub short_or_long : (source : List ℕ) (program : Program) (form : Form) (page : ℕ) → HasAccepted source program → length source ≤ max_short_source
+    → IsLong program form page → ⊥
+short_or_long source program form page x short long =
+    let named = x.named in
+    let bound = source_bound source named.tree form page named.read.parses in
+    let same = ap (λ (p : Program). length (image_of p form page)) named.resolved in
+    omega (arith, bound, same, short, long)
 
 -- ---- one refusal
 
@@ -74,26 +97,23 @@ word_of_fault Variant.no_main = refusal.NoMain
 word_of_fault Variant.frame = refusal.Frame
 word_of_fault Variant.count = refusal.Count
 
--- the words of the lending rule's answers
-abbrev word_of_breach : Option Breach → Refusal
-word_of_breach None = refusal.Later
-word_of_breach (Some (breach.Lent at spawn)) = refusal.Lent spawn
-word_of_breach (Some (breach.Same at)) = refusal.Same
+-- the words of the lending rule's answers, and where they stand; an accepted program has no refusal
+abbrev word_of_breach : Breach → Refusal
+word_of_breach (breach.Lent at spawn) = refusal.Lent spawn
+word_of_breach (breach.Same at) = refusal.Same
 
--- where they stand; an accepted program is refused at 0, if at all
-abbrev offset_of_breach : Option Breach → ℕ
-offset_of_breach None = 0
-offset_of_breach (Some (breach.Lent at spawn)) = at
-offset_of_breach (Some (breach.Same at)) = at
+abbrev offset_of_breach : Breach → ℕ
+offset_of_breach (breach.Lent at spawn) = at
+offset_of_breach (breach.Same at) = at
 
--- why `serial` refuses a source: as a text, by its names, or by what the lending rule answers of its program
+-- why a source is refused: as a text, by its names, or by what the lending rule answers of its program
 abbrev Cause : (source : List ℕ) → (at : ℕ) → Refusal → Type 0
 Cause source at why =
     ((r : text.Refusal) × text.IsAnswer source r at × (why ≡ word_of_text r))
     ⊎ (((v : Variant) × IsMisnamed source at v × (why ≡ word_of_fault v))
-    ⊎ ((program : Program) × (found : Option Breach) × HasProgram source program × IsLendingAnswer program found × (at ≡ offset_of_breach found) × (why ≡ word_of_breach found)))
+    ⊎ ((program : Program) × (found : Breach) × HasProgram source program × IsLendingAnswer program (Some found) × (at ≡ offset_of_breach found) × (why ≡ word_of_breach found)))
 
-cause_of : (source : List ℕ) (at : ℕ) (why : Refusal) → IsRefusedBy Serial source at why → Cause source at why
+cause_of : (source : List ℕ) (at : ℕ) (why : Refusal) → IsRefused source at why → Cause source at why
 cause_of source at refusal.Syntax x = inl (text.syntax_, x, refl)
 cause_of source at refusal.Size x = inl (text.size, x, refl)
 cause_of source at refusal.Unknown x = inr (inl (Variant.unknown, x, refl))
@@ -103,9 +123,9 @@ cause_of source at refusal.Kind x = inr (inl (Variant.kind, x, refl))
 cause_of source at refusal.NoMain x = inr (inl (Variant.no_main, x, refl))
 cause_of source at refusal.Frame x = inr (inl (Variant.frame, x, refl))
 cause_of source at refusal.Count x = inr (inl (Variant.count, x, refl))
-cause_of source at (refusal.Lent spawn) x = inr (inr (x.0, Some (breach.Lent at spawn), x.1, x.2, refl, refl))
-cause_of source at refusal.Same x = inr (inr (x.0, Some (breach.Same at), x.1, x.2, refl, refl))
-cause_of source at refusal.Later x = inr (inr (x.1.0, None, x.1.1.named, x.1.1.accepted, x.0, refl))
+cause_of source at (refusal.Lent spawn) x = inr (inr (x.0, breach.Lent at spawn, x.1, x.2, refl, refl))
+cause_of source at refusal.Same x = inr (inr (x.0, breach.Same at, x.1, x.2, refl, refl))
+cause_of source at refusal.Long x = absurd x
 
 one_cause : (source : List ℕ) (i j : ℕ) (a b : Refusal) → Cause source i a → Cause source j b → (i ≡ j) × (a ≡ b)
 one_cause source i j a b (inl (r, x, e)) (inl (s, y, f)) =
@@ -122,38 +142,63 @@ one_cause source i j a b (inr (inr (p, found, x, m, at, e))) (inl (s, y, f)) = a
 one_cause source i j a b (inr (inr (p, found, x, m, at, e))) (inr (inl (w, y, f))) = absurd (misnamed_or_program source p j w x y)
 one_cause source i j a b (inr (inr (p, found, x, m, at, e))) (inr (inr (q, other, y, n, to, f))) =
     let program = HasProgram-one source p q x y in
-    let one = one_lending_answer q found other (subst (λ (of : Program). IsLendingAnswer of found) program m) n in
+    let both : Some found ≡ Some other = one_lending_answer q (Some found) (Some other) (subst (λ (of : Program). IsLendingAnswer of (Some found)) program m) n in
+    let one : found ≡ other = cc in
     (at ∙ ap offset_of_breach one ∙ sym to, e ∙ ap word_of_breach one ∙ sym f)
 
--- what is refused at all is refused by `serial`
-by_serial : (source : List ℕ) (at : ℕ) (why : Refusal) → IsRefused source at why → IsRefusedBy Serial source at why
-by_serial source at refusal.Later x = absurd x
-by_serial source at why x = x
-
-by_one_cause : (source : List ℕ) (i j : ℕ) (a b : Refusal) → IsRefusedBy Serial source i a → IsRefusedBy Serial source j b → (i ≡ j) × (a ≡ b)
+by_one_cause : (source : List ℕ) (i j : ℕ) (a b : Refusal) → IsRefused source i a → IsRefused source j b → (i ≡ j) × (a ≡ b)
 by_one_cause source i j a b x y = one_cause source i j a b (cause_of source i a x) (cause_of source j b y)
+
+-- a source that is refused anyway has no image that is too long
+long_or_refused : (source : List ℕ) (form : Form) (page at : ℕ) (why : Refusal) → HasLong source form page → IsRefused source at why → ⊥
+long_or_refused source form page at why x y = accepted_or_refused source x.0 at why x.1 y
+
+-- why a source isn't compiled: its image is too long, or it is refused anyway
+build_cause : (source : List ℕ) (form : Form) (page at : ℕ) (why : Refusal) → IsNotCompiled form page source at why
+    → ((at ≡ 0) × (why ≡ refusal.Long) × HasLong source form page) ⊎ IsRefused source at why
+build_cause source form page at refusal.Long x = inl (x.0, refl, x.1)
+build_cause source form page at why x = inr x
+
+one_build_cause : (source : List ℕ) (form : Form) (page i j : ℕ) (a b : Refusal)
+    → ((i ≡ 0) × (a ≡ refusal.Long) × HasLong source form page) ⊎ IsRefused source i a
+    → ((j ≡ 0) × (b ≡ refusal.Long) × HasLong source form page) ⊎ IsRefused source j b → (i ≡ j) × (a ≡ b)
+one_build_cause source form page i j a b (inl x) (inl y) = (x.0 ∙ sym y.0, x.1 ∙ sym y.1)
+one_build_cause source form page i j a b (inl x) (inr y) = absurd (long_or_refused source form page j b x.2 y)
+one_build_cause source form page i j a b (inr x) (inl y) = absurd (long_or_refused source form page i a y.2 x)
+one_build_cause source form page i j a b (inr x) (inr y) = by_one_cause source i j a b x y
 
 -- a source is refused once
 pub IsRefused-one : (command : Command) (source : List ℕ) (i j : ℕ) (a b : Refusal) → IsRefusedBy command source i a → IsRefusedBy command source j b → (i ≡ j) × (a ≡ b)
-IsRefused-one Serial source i j a b x y = by_one_cause source i j a b x y
-IsRefused-one Check source i j a b x y = by_one_cause source i j a b (by_serial source i a x) (by_serial source j b y)
-IsRefused-one (Mean limits) source i j a b x y = by_one_cause source i j a b (by_serial source i a x) (by_serial source j b y)
+IsRefused-one Check source i j a b x y = by_one_cause source i j a b x y
+IsRefused-one (Build form page) source i j a b x y =
+    one_build_cause source form page i j a b (build_cause source form page i a x) (build_cause source form page j b y)
+IsRefused-one (Serial limits stat) source i j a b x y =
+    one_build_cause source forms.Serial limits.page i j a b (build_cause source forms.Serial limits.page i a x) (build_cause source forms.Serial limits.page j b y)
+IsRefused-one (Mean limits) source i j a b x y = by_one_cause source i j a b x y
 
--- why `check` stops, `serial` stops as well
-pub stops_serial : (source : List ℕ) (why : Stop) → IsStopOf Check source why → IsStopOf Serial source why
-stops_serial source (stop.Refused at why) x = by_serial source at why x
-stops_serial source stop.Memory x = tt
+-- why `check` stops, `build` stops as well
+pub stops_build : (source : List ℕ) (form : Form) (page : ℕ) (why : Stop) → IsStopOf Check source why → IsStopOf (Build form page) source why
+stops_build source form page (stop.Refused at refusal.Long) x = absurd x
+stops_build source form page (stop.Refused at why) x = x
+stops_build source form page stop.Memory x = tt
 
--- why the program of an accepted source doesn't run, `serial` stops
-pub stops_program : (source : List ℕ) (program : Program) (why : Stop) → HasAccepted source program → IsStopOfProgram program why → IsStopOf Serial source why
-stops_program source program (stop.Refused at why) x y = subst (λ (w : Refusal). IsRefusedBy Serial source at w) (sym y.1) (y.0, (program, x, y.2))
-stops_program source program stop.Memory x y = tt
+-- why the program of an accepted source isn't built, `build` stops
+pub stops_making : {A : Type 0} (source : List ℕ) (program same : Program) (form : Form) (page : ℕ) (r : Result A Stop) → HasAccepted source program → same ≡ program
+    → IfErr r (IsStopOfBuild same form page) → IfErr r (IsStopOf (Build form page) source)
+stops_making source program same form page (Ok a) x e y = tt
+stops_making source program same form page (Err why) x e y = by why x (subst (λ (p : Program). IsStopOfBuild p form page why) e y)
+  where
+    by : (why : Stop) → HasAccepted source program → IsStopOfBuild program form page why → IsStopOf (Build form page) source why
+    by (stop.Refused at why) x y = subst (λ (w : Refusal). IsNotCompiled form page source at w) (sym y.1) (y.0, (program, x, y.2))
+    by stop.Memory x y = tt
 
--- the same of the answer of its run
-pub stops_run : {A : Type 0} (source : List ℕ) (program same : Program) (r : Result A Stop) → HasAccepted source program → same ≡ program
-    → IfErr r (IsStopOfProgram same) → IfErr r (IsStopOf Serial source)
-stops_run source program same (Ok a) x e y = tt
-stops_run source program same (Err why) x e y = stops_program source program why x (subst (λ (p : Program). IsStopOfProgram p why) e y)
+-- the build of an accepted source's program is the source's
+pub compiles_as : (source : List ℕ) (program : Program) (form : Form) (page : ℕ) (r : Result BuildOf Stop) → HasAccepted source program → IsSoundProgram program
+    → IfOk r (IsCompiled program form page) → IfOk r (CompilesAs source form page)
+compiles_as source program form page (Ok build) x sound y =
+    let same = sym y.made.made in
+    record { accepted = subst (HasAccepted source) same x; sound = subst IsSoundProgram same sound; compiled = subst (λ (p : Program). IsCompiled p form page build) same y }
+compiles_as source program form page (Err why) x sound y = tt
 
 -- the refusal of the lending rule is a reason to stop
 pub stops_lending : (source : List ℕ) (program : Program) (why : LendRefusal) → HasProgram source program → IsRefusalOf program why → IsStopOf Check source (stop_of_lending why)

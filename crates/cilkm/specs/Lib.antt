@@ -1,9 +1,7 @@
 pub mod Cut
-pub mod First
-pub mod Stack
-pub mod Run
 pub mod Setting
 pub mod Asked
 pub mod Pieces
+pub mod Built
 pub mod Source
 pub mod Verdict

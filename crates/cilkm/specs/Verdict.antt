@@ -1,6 +1,6 @@
 -- What the program answers, and why.
-use Rattle.std.specs.Prelude.{◌≡◌, ℕ, ◌<◌, ◌≤◌, ◌⊎◌, ℤ, List, ◌++◌, length, codes, Option, None, Some, IsSome, IfSome}
-use Rattle.std.specs.Fmt.{decimal, signed_decimal}
+use Rattle.std.specs.Prelude.{◌≡◌, ℕ, ◌<◌, ◌≤◌, ◌⊎◌, ℤ, Bool, if◌then◌else◌, List, ◌++◌, length, codes, Option, None, Some, IsSome, IfSome}
+use Rattle.std.specs.Fmt.{decimal}
 use Rattle.std.specs.Io.KnownBytes.{Appends}
 use Rattle.cm_text.specs.Count.{Rose}
 use Rattle.cm_text.specs.Transfer.{TookFront}
@@ -10,15 +10,21 @@ use Rattle.cm_meaning.specs.Meaning.{SerialEnd}
 use Rattle.cm_meaning.specs.declared.ended.Ended.{Ended as End}
 use Rattle.cm_meaning.specs.declared.ended.Limits.{Limits}
 use Rattle.cm_meaning.specs.declared.ended.Ended.TheVariants as ended
+use Rattle.cm_asm.specs.Listing.{listing}
+use Rattle.cm_gen.specs.declared.form.Form.TheVariants as forms
+use Rattle.cm_gen.specs.Build.{max_image_words}
+use Rattle.cm_gen.specs.Image.{image_of}
+use Rattle.cm_isa.specs.Address.{AreWordsOf}
+use Rattle.cm_serial.specs.Run.{IsSteps}
 use Rattle.cilkm.specs.Cut.{max_input, IsCut}
 use Rattle.cilkm.specs.Pieces.{pieces_behind, HaveValues, IsWrongAt}
-use Rattle.cilkm.specs.Source.{HasAccepted, IsRefusedBy, RunsAs}
+use Rattle.cilkm.specs.Source.{HasAccepted, IsRefusedBy, BuildsAs}
 use Rattle.cilkm.specs.declared.command.Command.{Command}
-use Rattle.cilkm.specs.declared.command.Command.TheVariants.{Check, Serial, Mean}
+use Rattle.cilkm.specs.declared.command.Command.TheVariants.{Check, Build, Serial, Mean}
 use Rattle.cilkm.specs.declared.refusal.Refusal.{Refusal}
 use Rattle.cilkm.specs.declared.refusal.Refusal.TheVariants as refusal
 use Rattle.cilkm.specs.declared.verdict.Verdict.{Verdict}
-use Rattle.cilkm.specs.declared.verdict.Verdict.TheVariants.{Usage, Read, Long, Refused, Input, Accepted, Value, Ended, Memory}
+use Rattle.cilkm.specs.declared.verdict.Verdict.TheVariants.{Usage, Read, Long, Refused, Input, Accepted, Listing, Ended, Counted, Memory}
 
 -- ---- texts and statuses
 
@@ -35,12 +41,16 @@ refusal_word refusal.Frame = codes "frame"
 refusal_word refusal.Count = codes "count"
 refusal_word (refusal.Lent spawn) = codes "lent"
 refusal_word refusal.Same = codes "same"
-refusal_word refusal.Later = codes "later"
+refusal_word refusal.Long = codes "long"
 
 -- the line of a refusal at an offset: of a lent mention it names the spawn too
 abbrev pub refusal_text : (at : ℕ) → Refusal → List ℕ
 refusal_text at (refusal.Lent spawn) = codes "refused " ++ (decimal at ++ (codes " " ++ (refusal_word (refusal.Lent spawn) ++ (codes " " ++ (decimal spawn ++ codes "\n")))))
 refusal_text at why = codes "refused " ++ (decimal at ++ (codes " " ++ (refusal_word why ++ codes "\n")))
+
+-- the line of a number of steps
+abbrev pub steps_line : (steps : ℕ) → List ℕ
+steps_line steps = codes "steps " ++ (decimal steps ++ codes "\n")
 
 -- what is printed
 abbrev pub verdict_text : Verdict → List ℕ
@@ -50,8 +60,9 @@ verdict_text Long = codes "long\n"
 verdict_text (Refused offset why) = refusal_text offset why
 verdict_text (Input at) = codes "input " ++ (decimal at ++ codes "\n")
 verdict_text Accepted = codes "accepted\n"
-verdict_text (Value run) = codes "value " ++ (signed_decimal run.value ++ codes "\n")
+verdict_text (Listing words) = listing words
 verdict_text (Ended end) = ended_text end
+verdict_text (Counted end steps) = ended_text end ++ steps_line steps
 verdict_text Memory = codes "memory\n"
 
 -- the status of an end
@@ -68,8 +79,9 @@ verdict_status Long = 8
 verdict_status (Refused offset why) = 1
 verdict_status (Input at) = 10
 verdict_status Accepted = 0
-verdict_status (Value run) = 0
+verdict_status (Listing words) = 0
 verdict_status (Ended end) = ended_status end
+verdict_status (Counted end steps) = ended_status end
 verdict_status Memory = 7
 
 -- ---- why it is answered
@@ -93,13 +105,54 @@ pub record HasEnd (input : List ℕ) (limits : Limits) (end : End) : Type 0 wher
   pub values : HaveValues (pieces_behind input source) numbers
   pub serial : SerialEnd program numbers (limits_of limits) (end_of end)
 
+-- The source of standard input is accepted, and the image of its program in the serial form isn't too long.
+pub record IsRun (input : List ℕ) (page : ℕ) : Type 0 where
+  pub source : List ℕ
+  pub program : Program
+  pub cut : IsCut input source
+  pub accepted : HasAccepted source program
+  pub few : length (image_of program forms.Serial page) ≤ max_image_words
+
+-- the image of the program has words, and their run with these numbers and limits has so many steps
+pub record HasSteps (program : Program) (numbers : List ℤ) (limits : Limits) (steps : ℕ) : Type 0 where
+  pub words : List ℕ
+  pub code : AreWordsOf words (image_of program forms.Serial limits.page)
+  pub steps_are : IsSteps program numbers (limits_of limits) steps
+
+-- an end, with the number of steps where `stat` asks for it
+abbrev pub verdict_of : (stat : Bool) → End → (steps : ℕ) → Verdict
+verdict_of stat end steps = if stat then Counted end steps else Ended end
+
+-- What `serial` says of a program with numbers: the end of its elision, and where `stat` asks for them the steps of its
+-- run.
+pub record IsServed (stat : Bool) (program : Program) (numbers : List ℤ) (limits : Limits) (said : Verdict) : Type 0 where
+  pub end : End
+  pub steps : ℕ
+  pub serial : SerialEnd program numbers (limits_of limits) (end_of end)
+  pub counted : HasSteps program numbers limits steps
+  pub said_is : said ≡ verdict_of stat end steps
+
+-- the source of standard input is accepted, its pieces are numbers, its image isn't too long, and this is said of them
+pub record HasServed (input : List ℕ) (limits : Limits) (stat : Bool) (verdict : Verdict) : Type 0 where
+  pub source : List ℕ
+  pub program : Program
+  pub numbers : List ℤ
+  pub cut : IsCut input source
+  pub accepted : HasAccepted source program
+  pub few : length (image_of program forms.Serial limits.page) ≤ max_image_words
+  pub values : HaveValues (pieces_behind input source) numbers
+  pub served : IsServed stat program numbers limits verdict
+
 -- the command comes to this verdict with this standard input
 abbrev pub Brings : Verdict → Command → (input : List ℕ) → Type 0
 Brings Long command input = max_input < length input
 Brings (Refused offset why) command input = (length input ≤ max_input) × (source : List ℕ) × IsCut input source × IsRefusedBy command source offset why
 Brings Accepted Check input = (length input ≤ max_input) × (source : List ℕ) × (program : Program) × IsCut input source × HasAccepted source program
-Brings (Value run) Serial input = (length input ≤ max_input) × (source : List ℕ) × IsCut input source × RunsAs source run
+Brings (Listing words) (Build form page) input = (length input ≤ max_input) × (source : List ℕ) × IsCut input source × BuildsAs source form page words
 Brings (Input at) (Mean limits) input = (length input ≤ max_input) × HasWrongPiece input at
+Brings (Input at) (Serial limits stat) input = (length input ≤ max_input) × HasWrongPiece input at × IsRun input limits.page
+Brings (Ended end) (Serial limits stat) input = (length input ≤ max_input) × HasServed input limits stat (Ended end)
+Brings (Counted end steps) (Serial limits stat) input = (length input ≤ max_input) × HasServed input limits stat (Counted end steps)
 Brings (Ended end) (Mean limits) input = (length input ≤ max_input) × HasEnd input limits end
 Brings _ command input = ⊥
 

@@ -6,6 +6,7 @@ ghost use Rattle.cilkm.specs.declared.setting.Setting.{Setting};
 ghost use Rattle.cilkm.specs.declared.command.Command.{Command};
 
 use crate::setting::{Given, Key, read_settings};
+use cm_gen::Form;
 use cm_meaning::Limits;
 
 /// What the program is asked to do.
@@ -13,8 +14,20 @@ use cm_meaning::Limits;
 pub enum Command {
     /// `check`: read the source of standard input, resolve its names, and see that it obeys the lending rule.
     Check,
-    /// `serial`: compile the source of standard input, and run its words on one hart.
-    Serial,
+    /// `serial`: compile the source of standard input, and run its words on one hart, within limits.
+    Serial {
+        /// The limits.
+        limits: Limits,
+        /// Whether the number of steps is told.
+        stat: bool,
+    },
+    /// `build`: compile the source of standard input, and list its words.
+    Build {
+        /// Which build.
+        form: Form,
+        /// The bytes of a page: 256, 1024 or 4096.
+        page: u32,
+    },
     /// `mean`: find the end of the serial elision of the source of standard input, within limits.
     Mean(Limits),
 }
@@ -24,6 +37,8 @@ pub enum Command {
 pub enum Name {
     /// `check`.
     Check,
+    /// `build`.
+    Build,
     /// `serial`.
     Serial,
     /// `mean`.
@@ -41,20 +56,30 @@ impl Name {
     {
         match word {
             "check" => Some(Name::Check),
+            "build" => Some(Name::Build),
             "serial" => Some(Name::Serial),
             "mean" => Some(Name::Mean),
             _ => None,
         }
     }
 
-    /// Whether the command has a key: only `mean` has any.
+    /// Whether the command has a key.
     pub fn takes(self, key: Key) -> bool
         ensures { result ≡ takes self key }
     {
         match self {
-            Name::Check | Name::Serial => false,
+            Name::Check => false,
+            Name::Build => match key {
+                Key::Page | Key::Serial => true,
+                Key::Ticks | Key::Stack | Key::Stat => false,
+            },
+            Name::Serial => match key {
+                Key::Ticks | Key::Stack | Key::Page | Key::Stat => true,
+                Key::Serial => false,
+            },
             Name::Mean => match key {
                 Key::Ticks | Key::Stack | Key::Page => true,
+                Key::Serial | Key::Stat => false,
             },
         }
     }
@@ -83,7 +108,14 @@ fn command_with(name: Name, given: &Given) -> Command
 {
     match name {
         Name::Check => Command::Check,
-        Name::Serial => Command::Serial,
+        Name::Build => Command::Build {
+            form: given.form(),
+            page: given.page(),
+        },
+        Name::Serial => Command::Serial {
+            limits: given.limits(),
+            stat: given.stat(),
+        },
         Name::Mean => Command::Mean(given.limits()),
     }
 }

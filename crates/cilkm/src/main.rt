@@ -4,10 +4,9 @@
 //! This file makes the real streams and ends with the status; `still` does the rest.
 #![tactic(auto)]
 
+mod built;
 mod command;
 mod cut;
-mod first;
-mod hart;
 mod pieces;
 mod program;
 mod refusal;

@@ -1,30 +1,17 @@
-//! From a source to its program, and to a run of it.
-ghost use Rattle.std.specs.Prelude.{ℕ, IfOk, IfErr};
-ghost use Rattle.cm_syntax.specs.declared.expr.Expr.{Expr};
+//! From a source to its program, and to the build of it.
+ghost use Rattle.std.specs.Prelude.{IfOk, IfErr};
 ghost use Rattle.cilkm.specs.declared.command.Command.TheVariants as commands;
-ghost use Rattle.cilkm.specs.First.{IsFirstForm};
-ghost use Rattle.cilkm.specs.Run.{IsRunOf};
-ghost use Rattle.cilkm.specs.Source.{HasProgram, HasAccepted, RunsAs, IsStopOf, IsStopOfProgram};
+ghost use Rattle.cilkm.specs.Source.{HasProgram, HasAccepted, BuildsAs, CompilesAs, IsStopOf};
+ghost use Rattle.cm_meaning.specs.Range.{IsPage};
 
-use crate::first::first_value;
-use crate::hart::{self, EndedRun, Stack};
-use crate::refusal::{Refusal, Stop};
-use cm_asm::Image;
-use cm_gen::make_first;
+use crate::built::{BuiltImage, compile};
+use crate::refusal::Stop;
+use cm_gen::{Build, Form};
 use cm_lend::check;
 use cm_names::resolve;
 use cm_reader::read;
 use cm_syntax::{Checked, Program};
 use std::alloc::Global;
-
-/// The bytes of the stack account.
-const ACCOUNT: u32 = 262_144;
-
-/// The ticks of a run.
-const TICKS: u32 = 10_000_000;
-
-/// The bytes of a page.
-const PAGE: u32 = 4096;
 
 /// The program of a source, which obeys the lending rule: it is read, its names are resolved, and it is checked.
 ///
@@ -39,17 +26,33 @@ pub fn check_source(alloc: Global, source: &[u8]) -> Result<Checked, Stop>
     Ok(checked)
 }
 
-/// The run of a source: it is checked, and its program is compiled and run on one hart.
+/// The build of a source's program, in this form and with pages of so many bytes: the source is checked, and its program
+/// is compiled.
 ///
 /// # Errors
-/// The refusal of the source at its offset, exactly there, also where its program isn't compiled yet; `Memory` is want
-/// of memory.
-pub fn run_source(alloc: Global, source: &[u8]) -> Result<EndedRun, Stop>
-    ensures run { IfOk result (RunsAs source.now) }
-    ensures stop { IfErr result (IsStopOf commands.Serial source.now) }
+/// The refusal of the source at its offset, exactly there, or `Long` at 0 exactly where its image has more than 200,000
+/// words; `Memory` is want of memory.
+pub fn compile_source(alloc: Global, source: &[u8], form: Form, page: u32) -> Result<Build, Stop>
+    requires page { IsPage page }
+    ensures compiled { IfOk result (CompilesAs source.now form page) }
+    ensures stop { IfErr result (IsStopOf (commands.Build form page) source.now) }
 {
     let checked = check_source(alloc, source)?;
-    run_program(alloc, checked.program())
+    let _program = checked.program();
+    compile(alloc, &checked, form, page)
+}
+
+/// The image of a source's program, in this form and with pages of so many bytes.
+///
+/// # Errors
+/// As of `compile_source`.
+pub fn build_source(alloc: Global, source: &[u8], form: Form, page: u32) -> Result<BuiltImage, Stop>
+    requires page { IsPage page }
+    ensures image { IfOk result (BuildsAs source.now form page) }
+    ensures stop { IfErr result (IsStopOf (commands.Build form page) source.now) }
+{
+    let Build { image, .. } = compile_source(alloc, source, form, page)?;
+    Ok(BuiltImage::of(image))
 }
 
 /// The program of a source.
@@ -60,18 +63,4 @@ fn program_of(alloc: Global, source: &[u8]) -> Result<Program, Stop>
     let tree = read(alloc, source)?;
     let program = resolve(alloc, tree)?;
     Ok(program)
-}
-
-/// The run of a program of the first form.
-fn run_program(alloc: Global, program: &Program) -> Result<EndedRun, Stop>
-    ensures run { IfOk result (λ run. (expression : Expr ℕ) × IsFirstForm program.now expression × IsRunOf expression run) }
-    ensures stop { IfErr result (IsStopOfProgram program.now) }
-{
-    let Some(value) = first_value(program) else {
-        return Err(Stop::Refused(0, Refusal::Later));
-    };
-    let words = make_first(alloc, value, PAGE)?;
-    let mut stack = Stack::new(alloc)?;
-    let run = hart::run(Image { words }, &mut stack, ACCOUNT, TICKS);
-    Ok(run)
 }

@@ -1,6 +1,7 @@
 //! Why a command comes to no end with a source.
 ghost use Rattle.std.specs.Prelude.{◌≡◌};
 
+use cm_gen::GenRefusal;
 use cm_lend::LendRefusal;
 use cm_names::NameRefusal;
 use cm_reader::ReadRefusal;
@@ -31,8 +32,8 @@ pub enum Refusal {
     Lent(u32),
     /// One call passes a variable as a slice twice, or a spawn lends one twice.
     Same,
-    /// The program is accepted, but it isn't of the form that is compiled today.
-    Later,
+    /// The image of the program has more than 200,000 words.
+    Long,
 }
 
 impl Refusal {
@@ -55,7 +56,7 @@ impl Refusal {
             Refusal::Count => "count",
             Refusal::Lent(_) => "lent",
             Refusal::Same => "same",
-            Refusal::Later => "later",
+            Refusal::Long => "long",
         }
     }
 }
@@ -115,6 +116,20 @@ impl From<LendRefusal> for Stop {
             LendRefusal::Lent { at, spawn } => Stop::Refused(at, Refusal::Lent(spawn)),
             LendRefusal::Same { at } => Stop::Refused(at, Refusal::Same),
             LendRefusal::Memory => Stop::Memory,
+        }
+    }
+}
+
+impl From<GenRefusal> for Stop {
+    ghost use Rattle.std.specs.Prelude.{◌≡◌};
+    ghost use Rattle.cilkm.specs.Source.{stop_of_making};
+
+    ghost from_gives = { λ refusal stop. stop ≡ stop_of_making refusal };
+
+    fn from(refusal: GenRefusal) -> Stop {
+        match refusal {
+            GenRefusal::Long { .. } => Stop::Refused(0, Refusal::Long),
+            GenRefusal::Memory => Stop::Memory,
         }
     }
 }

@@ -6,6 +6,7 @@ ghost use Rattle.cilkm.specs.Setting.{AreSettings, IsPlain, IsWordOf, given_by};
 ghost use Rattle.cilkm.specs.declared.setting.Setting.{Setting};
 
 use crate::command::Name;
+use cm_gen::Form;
 use cm_meaning::Limits;
 
 /// The ticks where no word gives them.
@@ -20,6 +21,12 @@ const DEFAULT_STACK: u32 = 64;
 /// The bytes of a page where no word gives them.
 const DEFAULT_PAGE: u32 = 4096;
 
+/// The number of the form where no word gives it.
+const DEFAULT_SERIAL: u32 = 0;
+
+/// Whether the number of steps is told, where no word says it.
+const DEFAULT_STAT: u32 = 0;
+
 /// What a setting is for.
 #[derive(Clone, Copy, Debug, PartialEq, Eq)]
 pub enum Key {
@@ -29,6 +36,10 @@ pub enum Key {
     Stack,
     /// `page`: the bytes of a page.
     Page,
+    /// `serial`: 1 for the serial build, 0 for the Cilk build.
+    Serial,
+    /// `stat`: 1 where the number of steps is told, and else 0.
+    Stat,
 }
 
 impl Key {
@@ -43,6 +54,8 @@ impl Key {
             "ticks" => Some(Key::Ticks),
             "stack" => Some(Key::Stack),
             "page" => Some(Key::Page),
+            "serial" => Some(Key::Serial),
+            "stat" => Some(Key::Stat),
             _ => None,
         }
     }
@@ -55,6 +68,7 @@ impl Key {
             Key::Ticks => 1 <= number && number <= MAX_TICKS,
             Key::Stack => 16 <= number && number <= 256,
             Key::Page => number == 256 || number == 1024 || number == 4096,
+            Key::Serial | Key::Stat => number <= 1,
         }
     }
 }
@@ -77,11 +91,15 @@ pub struct Given {
     pub stack: Option<u32>,
     /// The bytes of a page.
     pub page: Option<u32>,
+    /// 1 for the serial build, 0 for the Cilk build.
+    pub serial: Option<u32>,
+    /// 1 where the number of steps is told, and else 0.
+    pub stat: Option<u32>,
 }
 
 impl Given {
     ghost use Rattle.std.specs.Prelude.{◌≡◌, [], List};
-    ghost use Rattle.cilkm.specs.Setting.{given_by, given_number, limits_given, with_number};
+    ghost use Rattle.cilkm.specs.Setting.{form_given, given_by, given_number, limits_given, page_given, stat_given, with_number};
     ghost use Rattle.cilkm.specs.declared.setting.Setting.{Setting};
 
     /// No number for any key.
@@ -92,6 +110,8 @@ impl Given {
             ticks: None,
             stack: None,
             page: None,
+            serial: None,
+            stat: None,
         }
     }
 
@@ -103,6 +123,8 @@ impl Given {
             Key::Ticks => self.ticks,
             Key::Stack => self.stack,
             Key::Page => self.page,
+            Key::Serial => self.serial,
+            Key::Stat => self.stat,
         }
     }
 
@@ -114,6 +136,8 @@ impl Given {
             Key::Ticks => self.ticks = Some(setting.number),
             Key::Stack => self.stack = Some(setting.number),
             Key::Page => self.page = Some(setting.number),
+            Key::Serial => self.serial = Some(setting.number),
+            Key::Stat => self.stat = Some(setting.number),
         }
     }
 
@@ -124,7 +148,32 @@ impl Given {
         Limits {
             ticks: self.ticks.unwrap_or(DEFAULT_TICKS),
             stack: self.stack.unwrap_or(DEFAULT_STACK),
-            page: self.page.unwrap_or(DEFAULT_PAGE),
+            page: self.page(),
+        }
+    }
+
+    /// The bytes of a page: what is given, and else the default.
+    pub fn page(&self) -> u32
+        ensures { (settings : List Setting) → self.now ≡ given_by settings → result ≡ page_given settings }
+    {
+        self.page.unwrap_or(DEFAULT_PAGE)
+    }
+
+    /// Whether the number of steps is told: what is given, and else the default.
+    pub fn stat(&self) -> bool
+        ensures { (settings : List Setting) → self.now ≡ given_by settings → result ≡ stat_given settings }
+    {
+        self.stat.unwrap_or(DEFAULT_STAT) == 1
+    }
+
+    /// The form of a build: what is given, and else the default.
+    pub fn form(&self) -> Form
+        ensures { (settings : List Setting) → self.now ≡ given_by settings → result ≡ form_given settings }
+    {
+        if self.serial.unwrap_or(DEFAULT_SERIAL) == 1 {
+            Form::Serial
+        } else {
+            Form::Cilk
         }
     }
 }

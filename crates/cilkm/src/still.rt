@@ -1,33 +1,36 @@
 //! The top call: from the words and standard input to the status and standard output.
-ghost use Rattle.std.specs.Prelude.{◌≡◌, ◌≢◌, ℕ, ℤ, ◌≤◌, ◌⊎◌, Option, Some, IfOk, IfSome, length, List};
+ghost use Rattle.std.specs.Prelude.{◌≡◌, ◌≢◌, ℕ, ℤ, ◌≤◌, ◌⊎◌, Bool, Option, Some, IfOk, IfSome, length, List};
 ghost use Rattle.std.specs.IoError.{error_kind};
 ghost use Rattle.cm_text.specs.Count.{Rose};
-ghost use Rattle.cm_syntax.specs.declared.expr.Expr.{Expr};
 ghost use Rattle.cm_syntax.specs.declared.stmt.Program.{Program};
 ghost use Rattle.cm_meaning.specs.Ended.{end_of, limits_of};
 ghost use Rattle.cm_meaning.specs.Meaning.{SerialEnd};
-ghost use Rattle.cm_meaning.specs.Range.{HasRanges};
+ghost use Rattle.cm_meaning.specs.Range.{IsPage, HasRanges};
 ghost use Rattle.cm_meaning.specs.declared.ended.Ended.{Ended as End};
 ghost use Rattle.cm_meaning.specs.declared.ended.Limits.{Limits as LimitsOf};
 ghost use Rattle.cilkm.specs.Asked.{texts, Asks, AsksOrNot, IsWithin};
+ghost use Rattle.cm_gen.specs.declared.form.Form.{Form as FormOf};
+ghost use Rattle.cm_gen.specs.declared.form.Form.TheVariants as forms;
+ghost use Rattle.cilkm.specs.Built.{max_short_source, IsImageOf, IsLong};
 ghost use Rattle.cilkm.specs.Cut.{max_input, IsCut};
-ghost use Rattle.cilkm.specs.First.{IsFirstForm};
-ghost use Rattle.cilkm.specs.Run.{Run, IsRunOf};
 ghost use Rattle.cilkm.specs.Pieces.{pieces_behind, HaveValues};
-ghost use Rattle.cilkm.specs.Source.{HasProgram, HasAccepted};
+ghost use Rattle.cilkm.specs.Source.{HasAccepted, CompilesAs};
 ghost use Rattle.cilkm.specs.declared.command.Command.{Command};
 ghost use Rattle.cilkm.specs.declared.command.Command.TheVariants as commands;
+ghost use Rattle.cilkm.specs.declared.refusal.Refusal.TheVariants as refusals;
 ghost use Rattle.cilkm.specs.declared.verdict.Verdict.{Verdict};
 ghost use Rattle.cilkm.specs.declared.verdict.Verdict.TheVariants as verdicts;
-ghost use Rattle.cilkm.specs.Verdict.{verdict_text, Means, IsCaused, Says, GoesOut, Tells, IsDecided};
+ghost use Rattle.cilkm.specs.Verdict.{verdict_text, verdict_of, Means, IsCaused, IsServed, Says, GoesOut, Tells, IsDecided};
 
 use crate::command::{self, Command};
 use crate::cut::source_of;
 use crate::pieces::{PieceStop, numbers};
-use crate::program::{check_source, run_source};
+use crate::program::{build_source, check_source, compile_source};
 use crate::refusal::Stop;
 use crate::verdict::Verdict;
-use cm_meaning::{Limits, elide};
+use cm_gen::{Build, Form};
+use cm_meaning::{Ended, Limits, elide};
+use cm_serial::{Served, serial};
 use cm_syntax::Checked;
 use cm_text::{Memory, ReadEnd, Sink, Source, read_all, write_all};
 use std::alloc::Global;
@@ -48,13 +51,39 @@ pub fn still<I: Source, O: Sink>(alloc: Global, words: &[&str], source: &mut I, 
     ensures exact { IfSome (I.left source.old) (λ input. IsDecided result → (command : Option Command) × (verdict : Verdict)
         × AsksOrNot (texts words.now) command × Means command input verdict × Says verdict result (O.taken sink.old) (O.taken sink.new)) }
 
-    // A source whose program is of the first form is compiled, run, and its value printed, unless a stream fails or
-    // memory runs out.
-    ensures serial { Asks (texts words.now) commands.Serial → IfSome (I.left source.old) (λ input.
-        (text : List ℕ) (program : Program) (expression : Expr ℕ) → length input ≤ max_input → IsCut input text
-        → HasProgram text program → IsFirstForm program expression
+    // Of an accepted source `build` prints the listing of its program's image in the form and with the page asked for,
+    // exactly where that has at most 200,000 words, and else `refused 0 long`, unless a stream fails or memory runs out.
+    ensures build { (form : FormOf) (page : ℕ) → Asks (texts words.now) (commands.Build form page) → IfSome (I.left source.old) (λ input.
+        (text : List ℕ) (program : Program) → length input ≤ max_input → IsCut input text → HasAccepted text program
         → (Rose (I.faults source.old) (I.faults source.new) → ⊥) → (Rose (O.faults sink.old) (O.faults sink.new) → ⊥)
-        → ((run : Run) × IsRunOf expression run × Says (verdicts.Value run) result (O.taken sink.old) (O.taken sink.new))
+        → ((image : List ℕ) × IsImageOf program form page image × Says (verdicts.Listing image) result (O.taken sink.old) (O.taken sink.new))
+        ⊎ (IsLong program form page × Says (verdicts.Refused 0 refusals.Long) result (O.taken sink.old) (O.taken sink.new))
+        ⊎ Says verdicts.Memory result (O.taken sink.old) (O.taken sink.new)) }
+
+    // The image of a source of at most 8,192 bytes is never too long.
+    ensures short_sources_are_built { (form : FormOf) (page : ℕ) → Asks (texts words.now) (commands.Build form page) → IfSome (I.left source.old) (λ input.
+        (text : List ℕ) (program : Program) → length input ≤ max_input → IsCut input text → HasAccepted text program → length text ≤ max_short_source
+        → (Rose (I.faults source.old) (I.faults source.new) → ⊥) → (Rose (O.faults sink.old) (O.faults sink.new) → ⊥)
+        → ((image : List ℕ) × IsImageOf program form page image × Says (verdicts.Listing image) result (O.taken sink.old) (O.taken sink.new))
+        ⊎ Says verdicts.Memory result (O.taken sink.old) (O.taken sink.new)) }
+
+    // Of an accepted source with numbers behind it `serial` prints the end of the serial elision, and with `stat=1` the
+    // number of steps behind it, exactly where its image in the serial form has at most 200,000 words, and else
+    // `refused 0 long`, unless a stream fails or memory runs out.
+    ensures serial { (limits : LimitsOf) (stat : Bool) → Asks (texts words.now) (commands.Serial limits stat) → IfSome (I.left source.old) (λ input.
+        (text : List ℕ) (program : Program) (numbers : List ℤ) → length input ≤ max_input → IsCut input text
+        → HasAccepted text program → HaveValues (pieces_behind input text) numbers
+        → (Rose (I.faults source.old) (I.faults source.new) → ⊥) → (Rose (O.faults sink.old) (O.faults sink.new) → ⊥)
+        → ((said : Verdict) × IsServed stat program numbers limits said × Says said result (O.taken sink.old) (O.taken sink.new))
+        ⊎ (IsLong program forms.Serial limits.page × Says (verdicts.Refused 0 refusals.Long) result (O.taken sink.old) (O.taken sink.new))
+        ⊎ Says verdicts.Memory result (O.taken sink.old) (O.taken sink.new)) }
+
+    // The image of a source of at most 8,192 bytes is never too long.
+    ensures short_sources_are_run { (limits : LimitsOf) (stat : Bool) → Asks (texts words.now) (commands.Serial limits stat) → IfSome (I.left source.old) (λ input.
+        (text : List ℕ) (program : Program) (numbers : List ℤ) → length input ≤ max_input → IsCut input text
+        → HasAccepted text program → HaveValues (pieces_behind input text) numbers → length text ≤ max_short_source
+        → (Rose (I.faults source.old) (I.faults source.new) → ⊥) → (Rose (O.faults sink.old) (O.faults sink.new) → ⊥)
+        → ((said : Verdict) × IsServed stat program numbers limits said × Says said result (O.taken sink.old) (O.taken sink.new))
         ⊎ Says verdicts.Memory result (O.taken sink.old) (O.taken sink.new)) }
 
     // Of an accepted source with numbers behind it `mean` prints the end of the serial elision, unless a stream fails or
@@ -130,7 +159,8 @@ fn input_verdict(alloc: Global, command: Command, input: &[u8]) -> Result<Verdic
 {
     match command {
         Command::Check => check_verdict(alloc, input),
-        Command::Serial => serial_verdict(alloc, input),
+        Command::Build { form, page } => build_verdict(alloc, form, page, input),
+        Command::Serial { limits, stat } => serial_verdict(alloc, &limits, stat, input),
         Command::Mean(limits) => mean_verdict(alloc, &limits, input),
     }
 }
@@ -147,15 +177,71 @@ fn check_verdict(alloc: Global, input: &[u8]) -> Result<Verdict, Memory>
     }
 }
 
-/// What `serial` comes to: the source of standard input is compiled and run on one hart.
-fn serial_verdict(alloc: Global, input: &[u8]) -> Result<Verdict, Memory>
-    requires { length input.now ≤ max_input }
-    ensures { IfOk result (Means (Some commands.Serial) input.now) }
+/// What `build` comes to: the source of standard input is compiled.
+fn build_verdict(alloc: Global, form: Form, page: u32, input: &[u8]) -> Result<Verdict, Memory>
+    requires short { length input.now ≤ max_input }
+    requires page { IsPage page }
+    ensures { IfOk result (Means (Some (commands.Build form page)) input.now) }
 {
-    match run_source(alloc, source_of(input)) {
-        Ok(run) => Ok(Verdict::Value(run)),
+    match build_source(alloc, source_of(input), form, page) {
+        Ok(image) => Ok(Verdict::Listing(image)),
         Err(Stop::Refused(at, refusal)) => Ok(Verdict::Refused(at, refusal)),
         Err(Stop::Memory) => Err(Memory),
+    }
+}
+
+/// What `serial` comes to: the source of standard input is compiled, and run with the numbers behind it.
+fn serial_verdict(
+    alloc: Global,
+    limits: &Limits,
+    stat: bool,
+    input: &[u8],
+) -> Result<Verdict, Memory>
+    requires short { length input.now ≤ max_input }
+    requires within { HasRanges (limits_of limits.now) }
+    ensures { IfOk result (Means (Some (commands.Serial limits.now stat)) input.now) }
+{
+    let source = source_of(input);
+    match compile_source(alloc, source, Form::Serial, limits.page) {
+        Ok(build) => run_verdict(alloc, limits, stat, input, source, &build),
+        Err(Stop::Refused(at, refusal)) => Ok(Verdict::Refused(at, refusal)),
+        Err(Stop::Memory) => Err(Memory),
+    }
+}
+
+/// What `serial` comes to with the build of an accepted source.
+fn run_verdict(
+    alloc: Global,
+    limits: &Limits,
+    stat: bool,
+    input: &[u8],
+    source: &[u8],
+    build: &Build,
+) -> Result<Verdict, Memory>
+    requires short { length input.now ≤ max_input }
+    requires within { HasRanges (limits_of limits.now) }
+    requires cut { IsCut input.now source.now }
+    requires compiled { CompilesAs source.now forms.Serial limits.now.page build.now }
+    ensures { IfOk result (Means (Some (commands.Serial limits.now stat)) input.now) }
+{
+    match numbers(alloc, input, source.len() + 2) {
+        Ok(numbers) => {
+            let Served { ended, steps } = serial(alloc, build, numbers.items(), limits)?;
+            Ok(served_verdict(stat, ended, steps))
+        }
+        Err(PieceStop::Piece { at }) => Ok(Verdict::Input(at)),
+        Err(PieceStop::Memory) => Err(Memory),
+    }
+}
+
+/// What is said of a run: its end, and the number of its steps where that is asked for.
+fn served_verdict(stat: bool, ended: Ended, steps: u64) -> Verdict
+    ensures { result ≡ verdict_of stat ended steps }
+{
+    if stat {
+        Verdict::Counted(ended, steps)
+    } else {
+        Verdict::Ended(ended)
     }
 }
 

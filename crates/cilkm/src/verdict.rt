@@ -1,11 +1,12 @@
 //! What the program answers: its verdicts, their texts and statuses.
 ghost use Rattle.std.specs.Prelude.{◌≡◌, ◌++◌, ℕ, List as ListOf, Option, codes, IfOk};
-ghost use Rattle.std.specs.Fmt.{decimal, signed_decimal};
+ghost use Rattle.std.specs.Fmt.{decimal};
+ghost use Rattle.cm_meaning.specs.Ended.{ended_text as text_of_end};
 ghost use Rattle.cilkm.specs.declared.command.Command.{Command};
 ghost use Rattle.cilkm.specs.declared.verdict.Verdict.{Verdict};
-ghost use Rattle.cilkm.specs.Verdict.{Means, AnswersSame, refusal_text, ended_status as status_of_end};
+ghost use Rattle.cilkm.specs.Verdict.{Means, AnswersSame, refusal_text, steps_line, ended_status as status_of_end};
 
-use crate::hart::EndedRun;
+use crate::built::BuiltImage;
 use crate::refusal::Refusal;
 use cm_meaning::{Ended, text as ended_text};
 use cm_text::{Bytes, List, Memory};
@@ -26,10 +27,12 @@ pub enum Verdict {
     Input(u32),
     /// The source is accepted.
     Accepted,
-    /// The source was compiled, and the run of its code ended with a value.
-    Value(EndedRun),
+    /// The source was compiled, and this is the image of its program.
+    Listing(BuiltImage),
     /// The source's serial elision ends so.
     Ended(Ended),
+    /// The source's serial elision ends so, and the run of its code has so many steps.
+    Counted(Ended, u64),
     /// There was no memory left.
     Memory,
 }
@@ -49,8 +52,8 @@ impl Verdict {
             Verdict::Refused(..) => 1,
             Verdict::Input(_) => 10,
             Verdict::Accepted => 0,
-            Verdict::Value(_) => 0,
-            Verdict::Ended(ended) => ended_status(ended),
+            Verdict::Listing(_) => 0,
+            Verdict::Ended(ended) | Verdict::Counted(ended, _) => ended_status(ended),
             Verdict::Memory => 7,
         }
     }
@@ -66,8 +69,9 @@ impl Verdict {
             Verdict::Refused(offset, refusal) => refusal_line(alloc, *offset, *refusal),
             Verdict::Input(offset) => input_line(alloc, *offset),
             Verdict::Accepted => line(alloc, "accepted\n"),
-            Verdict::Value(run) => value_line(alloc, run.value()),
+            Verdict::Listing(image) => image.listing(alloc),
             Verdict::Ended(ended) => ended_text(alloc, ended),
+            Verdict::Counted(ended, steps) => counted_text(alloc, ended, *steps),
             Verdict::Memory => line(alloc, "memory\n"),
         }
     }
@@ -112,12 +116,14 @@ fn input_line(alloc: Global, offset: u32) -> Result<Bytes, Memory>
     Ok(List::from_vec(text.into_bytes()))
 }
 
-/// The line of a value.
-fn value_line(alloc: Global, value: i32) -> Result<Bytes, Memory>
-    ensures { IfOk result (λ text. text ≡ codes "value " ++ (signed_decimal value ++ codes "\n")) }
+/// The text of an end, and behind it the line of a number of steps.
+fn counted_text(alloc: Global, ended: &Ended, steps: u64) -> Result<Bytes, Memory>
+    ensures { IfOk result (λ text. text ≡ text_of_end ended.now ++ steps_line steps) }
 {
-    let text = format!(in alloc; "value {value}\n")?;
-    Ok(List::from_vec(text.into_bytes()))
+    let mut text = ended_text(alloc, ended)?;
+    let line = format!(in alloc; "steps {steps}\n")?;
+    text.append(line.as_bytes())?;
+    Ok(text)
 }
 
 /// The words and standard input come to one answer at most.

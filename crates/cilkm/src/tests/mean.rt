@@ -247,7 +247,7 @@ const WRONG_WORDS: [&[&str]; 11] = [
     &["mean", "ticks=5", "stack=16", "ticks=6"],
     &["mean", "page=256", "page=1024"],
     &["check", "page=256"],
-    &["serial", "ticks=5"],
+    &["serial", "serial=1"],
 ];
 
 /// What stands behind the line of `%%` of a program that prints its numbers, and the lines of its answer.

@@ -192,7 +192,7 @@ const FUNCTIONS: [(&str, &str); 19] = [
     // frame
     (
         "int main() { int a[16384], b[16382]; return 0; }",
-        "refused 0 later\n",
+        "value 0\n",
     ),
     (
         "int main() { int a[16384], b[16383]; return 0; }",
@@ -200,7 +200,7 @@ const FUNCTIONS: [(&str, &str); 19] = [
     ),
     (
         "int main() { int a[16384], b[16380]; return 1 + (2 + 3); }",
-        "refused 0 later\n",
+        "value 6\n",
     ),
     (
         "int main() { int a[16384], b[16381]; return 1 + (2 + 3); }",
@@ -225,7 +225,7 @@ const FUNCTIONS: [(&str, &str); 19] = [
     // count
     (
         "int f(int a[], int b[], int c[], int d[]) { return 0; } int main() { return 0; }",
-        "refused 0 later\n",
+        "value 0\n",
     ),
     (
         "int f(int a[], int b[], int c[], int d[], int e) { return e; } int main() { return 0; }",

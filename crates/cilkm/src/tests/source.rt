@@ -4,7 +4,7 @@ use super::is_answered;
 use crate::verdict::one_answer;
 use std::test::Fail;
 
-/// Programs of the form, with their values.
+/// Programs of one expression, with their values.
 const PROGRAMS: [(&str, &str); 13] = [
     ("int main() { return 14; }", "value 14\n"),
     ("int main() { return 2 + 3 * 4; }", "value 14\n"),
@@ -33,48 +33,48 @@ const PROGRAMS: [(&str, &str); 13] = [
     ("int main() { return 2147483647; }", "value 2147483647\n"),
 ];
 
-/// Programs that are accepted and are of another form.
+/// Programs with statements, calls and names, and their ends.
 const OTHER_PROGRAMS: [(&str, &str); 17] = [
-    ("int main() { return -1; }", "refused 0 later\n"),
-    ("int main() { return 7 / 2; }", "refused 0 later\n"),
-    ("int main() { ; return 1; }", "refused 0 later\n"),
-    ("int main() { { return 1; } }", "refused 0 later\n"),
-    ("int main() { int x; return 1; }", "refused 0 later\n"),
-    ("int main() { }", "refused 0 later\n"),
-    ("cilk int main() { return 1; }", "refused 0 later\n"),
-    ("int main() { return inputs(); }", "refused 0 later\n"),
-    ("int main() { return main(); }", "refused 0 later\n"),
+    ("int main() { return -1; }", "value -1\n"),
+    ("int main() { return 7 / 2; }", "value 3\n"),
+    ("int main() { ; return 1; }", "value 1\n"),
+    ("int main() { { return 1; } }", "value 1\n"),
+    ("int main() { int x; return 1; }", "value 1\n"),
+    ("int main() { }", "value 0\n"),
+    ("cilk int main() { return 1; }", "value 1\n"),
+    ("int main() { return inputs(); }", "value 0\n"),
+    ("int main() { return main(); }", "trap stack\n"),
     (
         "int f() { return 1; } int main() { return 2; }",
-        "refused 0 later\n",
+        "value 2\n",
     ),
     (
         "int main() { return 1; } int f() { return 2; }",
-        "refused 0 later\n",
+        "value 1\n",
     ),
     (
         "int main() { int a[2]; { int a[3]; split a at 1 as l, a { a[0] = len(l); } } return 0; }",
-        "refused 0 later\n",
+        "value 0\n",
     ),
     (
         "int main() { int a[2]; { int a[3]; split a at 1 as l, r { return len(a); } } return 0; }",
-        "refused 0 later\n",
+        "value 2\n",
     ),
     (
         "int main() { int a[2]; split a at 1 as l, r { int l; l = len(r); } return 0; }",
-        "refused 0 later\n",
+        "value 0\n",
     ),
     (
         "int main() { for (int i = 0; i < 3; i++) { int i; i = 1; } return 0; }",
-        "refused 0 later\n",
+        "value 0\n",
     ),
     (
         "int f(int f) { int g; { int f; } return f; } int main() { int main; return f(main); }",
-        "refused 0 later\n",
+        "value 0\n",
     ),
     (
         "void g(int a[]) { a[0]++; } int main() { int x, b[2]; g(&x); g(b); return x; }",
-        "refused 0 later\n",
+        "value 1\n",
     ),
 ];
 
@@ -96,8 +96,8 @@ const TEXTS: [(&str, &str); 12] = [
 
 /// Inputs with a line of `%%`, or with one that is nearly so.
 const CUTS: [(&str, &str); 18] = [
-    ("int main() { return 1; }\n%%\nint", "value 1\n"),
-    ("int main() { return 1; }\r\n%%\r\n2147483648", "value 1\n"),
+    ("int main() { return 1; }\n%%\n7", "value 1\n"),
+    ("int main() { return 1; }\r\n%%\r\n2147483647", "value 1\n"),
     ("int main() { return 1; }\n%%", "value 1\n"),
     ("int main() { return 1; }\n%%\r", "value 1\n"),
     ("%%\nint main() { return 1; }", "refused 0 syntax\n"),
@@ -118,8 +118,8 @@ const CUTS: [(&str, &str); 18] = [
         "int main() { return 1; }\n/*\n%%\n*/",
         "refused 25 syntax\n",
     ),
-    ("int main() { return 1; }\n//\n%%\nint", "value 1\n"),
-    ("int main() { return 7\n%\n3; }", "refused 0 later\n"),
+    ("int main() { return 1; }\n//\n%%\n7", "value 1\n"),
+    ("int main() { return 7\n%\n3; }", "value 1\n"),
 ];
 
 #[test]
