@@ -19,7 +19,8 @@ use Rattle.cm_syntax.specs.declared.stmt.Slot.TheVariants as slot
 use Rattle.cm_syntax.specs.declared.stmt.Program.{Program}
 use Rattle.cm_syntax.specs.Frame.{arguments_words, arguments_temporaries}
 use Rattle.cm_syntax.specs.Label.{silent}
-use Rattle.cm_syntax.specs.Stack.{present, Reference, Stack, Argument, word, slice}
+use Rattle.cm_syntax.specs.Cell.{value_in}
+use Rattle.cm_syntax.specs.Stack.{Reference, Stack, Argument, word, slice}
 use Rattle.cm_syntax.specs.Rest.{Purpose, Item, evaluate, arguments, pass, Hand, idle, holds, control}
 use Rattle.cm_syntax.specs.Step.{scalar_slice, item_step}
 use Rattle.cm_meaning.specs.Activation.{end_count}
@@ -200,7 +201,7 @@ module _ (program : Program) (form : Form) (page limit : ℕ) (input : List ℤ)
 
     slice_by : (u : Purpose) (g : ℕ) (ws : List Argument) (hand : Hand) (a : Mark ℕ) (r : Reference) {n o : _} (row : Row_of-Arg ℕ n) (more : Row_of-Arg ℕ o) (count : ℕ)
         → exact hand (arguments u g ws row ∷ k) → RestFits program page (arguments u g ws row ∷ k) (f ∷ calls) → HasRoom program page (f ∷ calls) count → used k + arguments_size ws + 1 < count → 0 < end_count k
-        → row_of program page (f ∷ calls) h a.name ≡ present r → IsRow program page (f ∷ calls) spot.frames r
+        → value_in (row_of program page (f ∷ calls) h a.name) ≡ Some r → IsRow program page (f ∷ calls) spot.frames r
         → StandsThen code ((straight (keep_slice slots a.name (used k + arguments_size ws)) ++ arguments_code slots more (used k) (arguments_size ws + 2)) ++ enter_code (form_here program form (f ∷ calls)) slots u g) (coded k) m.counter
         → leads (arguments u g (slice r ∷ ws) more ∷ k)
     slice_by u g ws hand a r row more count x fits room less some row_is is c =

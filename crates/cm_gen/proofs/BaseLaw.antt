@@ -3,13 +3,13 @@ use Rattle.std.proofs.Common.{◌≡◌, ℕ, zero, suc, ◌+◌, ◌-◌, ◌*�
 use Rattle.std.proofs.lemmas.Bool.{lt-ltb, le-ltb, ltb-true}
 use Rattle.std.proofs.lemmas.Bool.Decides.{eqb_tells}
 use Rattle.std.proofs.lemmas.Int.{ints, fits_signed_from_abs}
-use Rattle.std.specs.Prelude.{◌⊎◌, Bool, true, false, ◌==◌, if◌then◌else◌, nat_lt, ℤ, pos, negsuc, ◌+ℤ◌, FitsSigned, slice_get}
+use Rattle.std.specs.Prelude.{◌⊎◌, Bool, true, false, ◌==◌, if◌then◌else◌, nat_lt, ℤ, pos, negsuc, ◌+ℤ◌, FitsSigned, slice_get, Option, None, Some}
 use Rattle.std.specs.Int.{w32, cast_unsigned}
 use Rattle.cm_isa.specs.Bits.{minus}
 use Rattle.cm_isa.specs.Operation.{Operation, ecall}
 use Rattle.cm_isa.specs.Alu.{int, word, offset}
 use Rattle.cm_isa.specs.Action.{follow}
-use Rattle.cm_isa.specs.Machine.{Machine, Mapped, Code, InstructionsAt, machine_after, machine_with}
+use Rattle.cm_isa.specs.Machine.{Machine, Mapped, Code, InstructionsAt, machine_after, machine_with, reads}
 use Rattle.cm_isa.specs.Run.{ComesTo}
 use Rattle.cm_isa.specs.Register.{with_register}
 use Rattle.cm_isa.specs.declared.convention.TheConstants as reg
@@ -19,7 +19,8 @@ use Rattle.cm_syntax.specs.declared.stmt.Function.{Function}
 use Rattle.cm_syntax.specs.declared.stmt.Program.{Program}
 use Rattle.cm_syntax.specs.Frame.{slot_words, slots_words, body_temporaries, rounded_frame}
 use Rattle.cm_syntax.specs.Operator.{natural}
-use Rattle.cm_syntax.specs.Stack.{Cell, absent, unset, present, Reference, Stack}
+use Rattle.cm_syntax.specs.Cell.{value_in}
+use Rattle.cm_syntax.specs.Stack.{Reference, Stack}
 use Rattle.cm_syntax.specs.Step.{slots_in, is_index}
 use Rattle.cm_meaning.specs.TypedState.{slots_at, row_words}
 use Rattle.cm_gen.specs.Assembler.{lui, addi, add, slli, bltu}
@@ -27,7 +28,7 @@ use Rattle.cm_gen.specs.Code.{is_near, low_part, high_part, load_number, load_sl
 use Rattle.cm_gen.specs.Part.{straight}
 use Rattle.cm_gen.specs.Expression.{words_through, slot_offset, load_address, base_in, base, length_in, length_code, locate_code}
 use Rattle.cm_gen.specs.Standing.{Frame, StandsThen, slots_here}
-use Rattle.cm_gen.specs.FrameWord.{bits, IsPlace, word_number, words_in, words_at, address_at, pointer_of, word_address, MayStand, AreFrames, reference_address, cell_in, HasCell, Holds, row_in, row_of}
+use Rattle.cm_gen.specs.FrameWord.{bits, IsPlace, word_number, words_in, words_at, address_at, pointer_of, word_address, MayStand, AreFrames, reference_address, cell_in, HasCell, Holds, row_in, row_of, slice_cell, slice_value}
 use Rattle.cm_syntax.specs.Rest.{Control}
 use Rattle.cm_gen.specs.declared.form.Form.{Form}
 use Rattle.cm_gen.specs.StandsFor.{Spot, ExactAt}
@@ -37,6 +38,8 @@ use Rattle.cm_gen.proofs.PatternLaw.{Sets, sets_by_one, sets_by_two, load_number
 use Rattle.cm_gen.proofs.StandingLaw.{straight_there}
 use Rattle.cm_gen.proofs.FrameWordLaw.{slots_top, IsOffset, offset_of, slot_at_offset, place_at_offset}
 use Rattle.cm_gen.proofs.FactLaw.{IsWithin}
+use Rattle.cm_syntax.proofs.CellLaw.{map_value}
+use Rattle.cm_gen.proofs.CellLaw.{cell_value}
 
 -- ---- instructions at their place
 
@@ -110,13 +113,12 @@ module _ (code : Code) where
 
 -- ---- the words of a row
 
-pub same_present : {A : Type 0} {x y : A} → present x ≡ present y → x ≡ y
+pub same_present : {A : Type 0} {x y : A} → Some x ≡ Some y → x ≡ y
 same_present {A = A} {x = x} {y = y} e = ap or_else e
   where
-    or_else : Cell A → A
-    or_else absent = x
-    or_else unset = x
-    or_else (present z) = z
+    or_else : Option A → A
+    or_else None = x
+    or_else (Some z) = z
 
 through_least : (slots : List Slot) (s : ℕ) → words_through slots s ≤ slots_words slots
 through_least [] s = omega arith
@@ -310,25 +312,21 @@ module _ (program : Program) (page : ℕ) where
     pub zero_is : m.registers reg.ZERO ≡ 0
     pub pointer_is : m.registers reg.FP ≡ pointer_of frames
 
-  -- a slice's two words
-  abbrev slice_value : (calls : List ℕ) → List Frame → Reference → (i : ℕ) → ℕ
-  slice_value calls frames r zero = reference_address program page calls frames r
-  slice_value calls frames r (suc i) = r.length
-
   pub slice_place : (f : ℕ) (calls : List ℕ) (a i : ℕ) → slice_get (slots_here program (f ∷ calls)) a ≡ Some slot.Slice → i < 2 → IsPlace (slots_here program (f ∷ calls)) a i
   slice_place f calls a i e less = rw e less
 
   pub slice_there : (f : ℕ) (calls : List ℕ) (frames : List Frame) (h : Stack) (w : Mapped) (a i : ℕ) (r : Reference) → Holds program page (f ∷ calls) frames h w → slice_get (slots_here program (f ∷ calls)) a ≡ Some slot.Slice
-      → h.references (length calls) a ≡ present r → i < 2 → w (word_address frames (length calls) (word_number (slots_here program (f ∷ calls)) a i)) ≡ Some (slice_value (f ∷ calls) frames r i)
+      → value_in (h.references (length calls) a) ≡ Some r → i < 2 → reads (w (word_address frames (length calls) (word_number (slots_here program (f ∷ calls)) a i))) ≡ Some (slice_value program page (f ∷ calls) frames r i)
   slice_there f calls frames h w a i r hold e reference less =
       let top_is = slots_top program page f calls in
-      subst (λ c. HasCell program page c (w (word_address frames (length calls) (word_number (slots_here program (f ∷ calls)) a i)))) (cell_is i)
+      cell_value program page (slice_cell program page (f ∷ calls) frames (h.references (length calls) a) i) (slice_value program page (f ∷ calls) frames r i) (w (word_address frames (length calls) (word_number (slots_here program (f ∷ calls)) a i)))
+      (map_value (λ z. slice_value program page (f ∷ calls) frames z i) (h.references (length calls) a) r reference)
+      (subst (λ c. HasCell program page c (w (word_address frames (length calls) (word_number (slots_here program (f ∷ calls)) a i)))) (cell_is i)
       (subst (λ l. HasCell program page (cell_in program page (slice_get l a) (f ∷ calls) frames h (length calls) a i) (w (word_address frames (length calls) (word_number l a i)))) top_is
-      (hold (length calls) a i (omega arith) (subst (λ l. IsPlace l a i) (sym top_is) (slice_place f calls a i e less))))
+      (hold (length calls) a i (omega arith) (subst (λ l. IsPlace l a i) (sym top_is) (slice_place f calls a i e less)))))
     where
-      cell_is : (i : ℕ) → cell_in program page (slice_get (slots_here program (f ∷ calls)) a) (f ∷ calls) frames h (length calls) a i ≡ present (slice_value (f ∷ calls) frames r i)
-      cell_is zero = rw (e, reference) refl
-      cell_is (suc i) = rw (e, reference) refl
+      cell_is : (i : ℕ) → cell_in program page (slice_get (slots_here program (f ∷ calls)) a) (f ∷ calls) frames h (length calls) a i ≡ slice_cell program page (f ∷ calls) frames (h.references (length calls) a) i
+      cell_is i = rw e refl
 
   module _ (code : Code) where
     -- one register and then the other
@@ -375,7 +373,7 @@ module _ (program : Program) (page : ℕ) where
         bits_of n h = omega (arith, ints, h)
 
     -- the words that a slice refers to
-    slice_base : (f : ℕ) (calls : List ℕ) (frames : List Frame) (h : Stack) (a : ℕ) (r : Reference) (m : Machine) → slice_get (slots_here program (f ∷ calls)) a ≡ Some slot.Slice → h.references (length calls) a ≡ present r
+    slice_base : (f : ℕ) (calls : List ℕ) (frames : List Frame) (h : Stack) (a : ℕ) (r : Reference) (m : Machine) → slice_get (slots_here program (f ∷ calls)) a ≡ Some slot.Slice → value_in (h.references (length calls) a) ≡ Some r
         → IsAtBase (f ∷ calls) frames h m
         → let o = slot_offset (slots_here program (f ∷ calls)) a in let is = load_slot reg.LEFT o ++ load_slot reg.HELP (o +ℤ pos 4) in IsCodeAt code m.counter is
         → (t : Machine) × ComesTo code (length is) m t × Based (f ∷ calls) frames r (4 * length is) m t
@@ -395,17 +393,17 @@ module _ (program : Program) (page : ℕ) where
         let place = does.counter in
         let same : s.registers reg.FP ≡ pointer_of frames = does.kept reg.FP refl ∙ pointer in
         let second = load_slot_runs code reg.HELP (o +ℤ pos 4) _ _ s refl refl (subst (λ p. p < 2 ^ 32) (sym same) up.fits) (ap (λ p. offset p (o +ℤ pos 4)) same ∙ up.address) up.aligned
-        (ap (λ w. w (word_address frames (length calls) (word_number slots a 1))) does.words ∙ slice_there f calls frames h m.words a 1 r x.slots e reference (omega arith)) (omega (arith, later, place))
+        (ap (λ w. reads (w (word_address frames (length calls) (word_number slots a 1)))) does.words ∙ slice_there f calls frames h m.words a 1 r x.slots e reference (omega arith)) (omega (arith, later, place))
         (subst (λ p. InstructionsAt code p (load_slot reg.HELP (o +ℤ pos 4))) (sym place) back.there) in
         joined (load_slot reg.LEFT o) (load_slot reg.HELP (o +ℤ pos 4)) first.1 does second.1 second.2 refl refl
 
     -- the number of words, in VALUE
-    pub length_runs : (calls : List ℕ) (frames : List Frame) (h : Stack) (a : ℕ) (r : Reference) (m : Machine) → IsAtBase calls frames h m → row_of program page calls h a ≡ present r → r.length < 2 ^ 31
+    pub length_runs : (calls : List ℕ) (frames : List Frame) (h : Stack) (a : ℕ) (r : Reference) (m : Machine) → IsAtBase calls frames h m → value_in (row_of program page calls h a) ≡ Some r → r.length < 2 ^ 31
         → IsCodeAt code m.counter (length_code (slots_here program calls) a)
         → (t : Machine) × ComesTo code (length (length_code (slots_here program calls) a)) m t × Sets reg.VALUE r.length (4 * length (length_code (slots_here program calls) a)) m t
     length_runs [] frames h a r m x row small here = absurd (no_row row)
       where
-        no_row : row_of program page [] h a ≡ present r → ⊥
+        no_row : value_in (row_of program page [] h a) ≡ Some r → ⊥
         no_row e = cc e
     length_runs (f ∷ calls) frames h a r m x row small here = by_kind (slice_get (slots_here program (f ∷ calls)) a) refl row here
       where
@@ -420,7 +418,7 @@ module _ (program : Program) (page : ℕ) where
             subst (λ v. (t : Machine) × ComesTo code (length (load_number reg.VALUE (pos n))) m t × Sets reg.VALUE v (4 * length (load_number reg.VALUE (pos n))) m t) bits_are
             (load_number_runs code reg.VALUE (pos n) m refl x.zero_is (fits_signed_from_abs w32 (pos n) (omega (arith, small, same))) (omega (arith, below)) here.there)
 
-        by_kind : (kind : Option Slot) → slice_get (slots_here program (f ∷ calls)) a ≡ kind → row_in program page kind (f ∷ calls) h a ≡ present r
+        by_kind : (kind : Option Slot) → slice_get (slots_here program (f ∷ calls)) a ≡ kind → value_in (row_in program page kind (f ∷ calls) h a) ≡ Some r
             → IsCodeAt code m.counter (length_in kind o)
             → (t : Machine) × ComesTo code (length (length_in kind o)) m t × Sets reg.VALUE r.length (4 * length (length_in kind o)) m t
         by_kind None e row here = cc row
@@ -434,16 +432,16 @@ module _ (program : Program) (page : ℕ) where
             (slice_there f calls frames h m.words a 1 r x.slots e row (omega arith)) (omega (arith, below)) here.there
 
     -- The code of a base, from a machine that stands before it.
-    pub base_runs : (calls : List ℕ) (frames : List Frame) (h : Stack) (a : ℕ) (r : Reference) (m : Machine) → IsAtBase calls frames h m → row_of program page calls h a ≡ present r
+    pub base_runs : (calls : List ℕ) (frames : List Frame) (h : Stack) (a : ℕ) (r : Reference) (m : Machine) → IsAtBase calls frames h m → value_in (row_of program page calls h a) ≡ Some r
         → IsCodeAt code m.counter (base (slots_here program calls) a)
         → (t : Machine) × ComesTo code (length (base (slots_here program calls) a)) m t × Based calls frames r (4 * length (base (slots_here program calls) a)) m t
     base_runs [] frames h a r m x row here = absurd (no_row row)
       where
-        no_row : row_of program page [] h a ≡ present r → ⊥
+        no_row : value_in (row_of program page [] h a) ≡ Some r → ⊥
         no_row e = cc e
     base_runs (f ∷ calls) frames h a r m x row here = by_kind (slice_get (slots_here program (f ∷ calls)) a) refl row here
       where
-        by_kind : (o : Option Slot) → slice_get (slots_here program (f ∷ calls)) a ≡ o → row_in program page o (f ∷ calls) h a ≡ present r
+        by_kind : (o : Option Slot) → slice_get (slots_here program (f ∷ calls)) a ≡ o → value_in (row_in program page o (f ∷ calls) h a) ≡ Some r
             → IsCodeAt code m.counter (base_in o (slot_offset (slots_here program (f ∷ calls)) a))
             → (t : Machine) × ComesTo code (length (base_in o (slot_offset (slots_here program (f ∷ calls)) a))) m t × Based (f ∷ calls) frames r (4 * length (base_in o (slot_offset (slots_here program (f ∷ calls)) a))) m t
         by_kind None e row here = cc row
@@ -543,7 +541,7 @@ module _ (program : Program) (page : ℕ) (code : Code) where
     pub words : t.words ≡ m.words
 
   -- an index in VALUE of a row: where it fits, VALUE takes the address of the element
-  pub locate_runs : (calls : List ℕ) (frames : List Frame) (h : Stack) (a : ℕ) (r : Reference) (v : ℤ) (m : Machine) → IsAtBase program page calls frames h m → row_of program page calls h a ≡ present r
+  pub locate_runs : (calls : List ℕ) (frames : List Frame) (h : Stack) (a : ℕ) (r : Reference) (v : ℤ) (m : Machine) → IsAtBase program page calls frames h m → value_in (row_of program page calls h a) ≡ Some r
       → IsRow program page calls frames r → m.registers reg.VALUE ≡ bits v → FitsSigned w32 v → is_index v r.length ≡ true → IsCodeAt code m.counter (locate_code (slots_here program calls) a)
       → (t : Machine) × ComesTo code (length (base (slots_here program calls) a) + 3) m t × Located calls frames r (natural v) (4 * length (locate_code (slots_here program calls) a)) m t
   locate_runs calls frames h a r v m x row is value fits index here =
@@ -566,7 +564,7 @@ module _ (program : Program) (page : ℕ) (code : Code) where
       )
 
   -- else the run is at service 8
-  pub locate_traps : (calls : List ℕ) (frames : List Frame) (h : Stack) (a : ℕ) (r : Reference) (v : ℤ) (m : Machine) → IsAtBase program page calls frames h m → row_of program page calls h a ≡ present r
+  pub locate_traps : (calls : List ℕ) (frames : List Frame) (h : Stack) (a : ℕ) (r : Reference) (v : ℤ) (m : Machine) → IsAtBase program page calls frames h m → value_in (row_of program page calls h a) ≡ Some r
       → IsRow program page calls frames r → m.registers reg.VALUE ≡ bits v → FitsSigned w32 v → is_index v r.length ≡ false → IsCodeAt code m.counter (locate_code (slots_here program calls) a)
       → (t : Machine) × ComesTo code (length (base (slots_here program calls) a) + 2) m t × code t.counter ecall × (t.registers reg.SERVICE ≡ 8) × (t.registers reg.TICKS ≡ m.registers reg.TICKS)
   locate_traps calls frames h a r v m x row is value fits index here =

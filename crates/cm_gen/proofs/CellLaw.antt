@@ -2,15 +2,17 @@
 use Rattle.std.proofs.Common.{◌≡◌, ◌≢◌, ℕ, zero, suc, ◌<◌, List, length, Option, None, Some, refl, sym, ap, ◌∙◌, subst, arith, eq-eqb, inl, inr}
 use Rattle.std.proofs.lemmas.Bool.Decides.{eqb_tells}
 use Rattle.std.specs.Prelude.{true, false, ◌==◌, ◌⊎◌, ℤ, slice_get}
-use Rattle.cm_isa.specs.Machine.{Mapped, with_word}
+use Rattle.cm_isa.specs.Machine.{Mapped, with_word, writable, IsWritable, Stored, reads}
 use Rattle.cm_syntax.specs.declared.stmt.Slot.{Slot}
 use Rattle.cm_syntax.specs.declared.stmt.Slot.TheVariants as slot
 use Rattle.cm_syntax.specs.declared.stmt.Program.{Program}
-use Rattle.cm_syntax.specs.Stack.{Cell, present, Reference, Stack, words_with, write_word, write_reference}
+use Rattle.cm_syntax.specs.Cell.{Cell, present, absent, unset, shared, value_in, may_write, CellSum}
+use Rattle.cm_syntax.proofs.CellLaw.{cell_alone, writable_alone, value_sum, map_value}
+use Rattle.cm_syntax.specs.Stack.{Reference, Stack, words_with, write_word, write_reference}
 use Rattle.cm_meaning.specs.TypedState.{slots_at, row_words}
 use Rattle.cm_gen.specs.Standing.{Frame}
 use Rattle.cm_gen.specs.FrameWord.{words_in_slot, IsPlace, word_number, bits, word_address, AreFrames, reference_address, value_cell, slice_cell, cell_in, cell_at, HasCell, Holds}
-use Rattle.cm_gen.proofs.MappedWordLaw.{with_word_same, with_word_other}
+use Rattle.cm_gen.proofs.MappedWordLaw.{with_word_same, with_word_other, is_own_at}
 use Rattle.cm_gen.proofs.FrameWordLaw.{one_place, place_word, one_word, holds_place}
 
 -- a word of a variable's own is a word of its slot
@@ -42,6 +44,38 @@ word_put_same words d s i v =
     let x : (d == d) ≡ true = eq-eqb d d refl in let y : (s == s) ≡ true = eq-eqb s s refl in let z : (i == i) ≡ true = eq-eqb i i refl in rw (x, y, z) refl
 
 module _ (program : Program) (page : ℕ) where
+  -- where a cell has a value, with whatever share, the word is to be read
+  pub cell_value : (c : Cell ℕ) (n : ℕ) (found : Stored) → value_in c ≡ Some n → HasCell program page c found → reads found ≡ Some n
+  cell_value absent n found e h = cc e
+  cell_value unset n found e h = cc e
+  cell_value (present m) n found e h = ap reads h ∙ e
+  cell_value (shared p m) n found e h = h ∙ e
+
+  -- where a cell may be written, so may the word
+  pub cell_writable : (c : Cell ℕ) (found : Stored) → may_write c ≡ true → HasCell program page c found → IsWritable found
+  cell_writable absent found e h = cc e
+  cell_writable unset found e h = h
+  cell_writable (present m) found e h = is_own_at found m h
+  cell_writable (shared p m) found e h = cc e
+
+  -- a word that has what a cell says has what each part of the cell says
+  pub cell_part : (a b c : Cell ℕ) (found : Stored) → CellSum a b c → HasCell program page c found → HasCell program page a found
+  cell_part absent b c found s h = tt
+  cell_part unset b c found s h = subst (λ z. HasCell program page z found) (cell_alone unset b c s (writable_alone unset b c s refl)) h
+  cell_part (present m) b c found s h = subst (λ z. HasCell program page z found) (cell_alone (present m) b c s (writable_alone (present m) b c s refl)) h
+  cell_part (shared p m) b c found s h = cell_value c m found (value_sum (shared p m) b c m s refl) h
+
+  -- a word that is as it was has what a cell says as before; of an absent cell nothing is said
+  pub has_same : (cell : Cell ℕ) (x y : Stored) → ((cell ≡ absent → ⊥) → x ≡ y) → HasCell program page cell y → HasCell program page cell x
+  has_same absent x y same h = tt
+  has_same unset x y same h = subst IsWritable (sym (same (λ e. cc))) h
+  has_same (present n) x y same h = same (λ e. cc) ∙ h
+  has_same (shared p n) x y same h = ap reads (same (λ e. cc)) ∙ h
+
+  -- where a cell of the stack has a value, its bits are in the word
+  pub has_value : (c : Cell ℤ) (v : ℤ) (found : Stored) → value_in c ≡ Some v → HasCell program page (value_cell program page c) found → reads found ≡ Some (bits v)
+  has_value c v found e h = cell_value (value_cell program page c) (bits v) found (map_value bits c v e) h
+
   -- the cell of a variable's own word
   pub own_cell : (calls : List ℕ) (frames : List Frame) (h : Stack) (d s i : ℕ) → i < row_words (slice_get (slots_at program calls d) s)
       → cell_at program page calls frames h d s i ≡ value_cell program page (h.words d s i)
@@ -141,12 +175,12 @@ module _ (program : Program) (page : ℕ) where
 
       comes : (j : ℕ) → IsPlace (slots_at program calls d) s j → HasCell program page (cell_at program page calls frames g d s j) (v (place_address calls frames d s j))
       comes zero there =
-          let first : v (place_address calls frames d s 0) ≡ Some (reference_address program page calls frames r) =
+          let first : v (place_address calls frames d s 0) ≡ writable (reference_address program page calls frames r) =
           with_word_other u (place_address calls frames d s 1) r.length (place_address calls frames d s 0)
           (places_apart calls frames d s 1 d s 0 shape deep deep (is_place 1 (omega arith)) (is_place 0 (omega arith)) (λ a b c. omega (arith, c)))
           ∙ with_word_same w (place_address calls frames d s 0) (reference_address program page calls frames r) in
           subst (λ c. HasCell program page c (v (place_address calls frames d s 0))) (sym (cell_is 0)) first
       comes (suc zero) there =
-          let second : v (place_address calls frames d s 1) ≡ Some r.length = with_word_same u (place_address calls frames d s 1) r.length in
+          let second : v (place_address calls frames d s 1) ≡ writable r.length = with_word_same u (place_address calls frames d s 1) r.length in
           subst (λ c. HasCell program page c (v (place_address calls frames d s 1))) (sym (cell_is 1)) second
       comes (suc (suc j)) there = absurd (omega (arith, subst (λ o. suc (suc j) < words_in_slot o) is there))

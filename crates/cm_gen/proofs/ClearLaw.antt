@@ -3,17 +3,18 @@ use Rattle.std.proofs.Common.{◌≡◌, ◌≢◌, ℕ, zero, suc, ◌+◌, ◌
 use Rattle.std.proofs.lemmas.Bool.{lt-ltb, le-ltb, cases_order}
 use Rattle.std.proofs.lemmas.Bool.Decides.{eqb_tells}
 use Rattle.std.proofs.lemmas.Int.{ints}
-use Rattle.std.specs.Prelude.{◌⊎◌, Bool, true, false, ◌==◌, ◌&&◌, nat_lt, if◌then◌else◌, ℤ, pos, ◌+ℤ◌, IsSome, slice_get}
+use Rattle.std.specs.Prelude.{◌⊎◌, Bool, true, false, ◌==◌, ◌&&◌, nat_lt, if◌then◌else◌, ℤ, pos, ◌+ℤ◌, slice_get}
 use Rattle.std.specs.Int.{w32, cast_unsigned}
 use Rattle.cm_isa.specs.declared.convention.TheConstants as reg
 use Rattle.cm_isa.specs.Bits.{minus}
 use Rattle.cm_isa.specs.Alu.{int, word, offset}
 use Rattle.cm_isa.specs.Action.{follow}
-use Rattle.cm_isa.specs.Machine.{Machine, Mapped, Code, machine_after, machine_with, with_word}
+use Rattle.cm_isa.specs.Machine.{Machine, Mapped, Code, machine_after, machine_with, with_word, IsWritable}
 use Rattle.cm_isa.specs.Run.{ComesTo}
 use Rattle.cm_isa.specs.Register.{with_register}
 use Rattle.cm_syntax.specs.declared.stmt.Program.{Program}
-use Rattle.cm_syntax.specs.Stack.{Cell, absent, present, is_held, are_held, Stack, clear_words}
+use Rattle.cm_syntax.specs.Cell.{Cell, present, may_write}
+use Rattle.cm_syntax.specs.Stack.{may_write_all, Stack, clear_words}
 use Rattle.cm_syntax.specs.Rest.{Item}
 use Rattle.cm_meaning.specs.TypedState.{slots_at, row_words}
 use Rattle.cm_gen.specs.Assembler.{addi, bltu, sw}
@@ -23,7 +24,7 @@ use Rattle.cm_gen.specs.FrameWord.{word_number, word_address, AreFrames, value_c
 use Rattle.cm_gen.specs.Formed.{RestFits}
 use Rattle.cm_gen.proofs.WordLaw as words
 use Rattle.cm_gen.proofs.Step.{comes_by_one, comes_on, follow_is}
-use Rattle.cm_gen.proofs.MappedWordLaw.{some_of, with_word_mapped}
+use Rattle.cm_gen.proofs.MappedWordLaw.{own_of, with_word_mapped}
 use Rattle.cm_gen.proofs.PatternLaw.{sets_by_one}
 use Rattle.cm_gen.proofs.StateLaw.{SameRegisters, same_sets, same_after}
 use Rattle.cm_gen.proofs.FrameWordLaw.{holds_place, kept_place, own_put}
@@ -34,18 +35,15 @@ use Rattle.cm_gen.proofs.LocateItemLaw.{put_runs}
 
 -- ---- stacks
 
--- where words are all held, each of them is
-pub held_at : (words : ℕ → Cell ℤ) (n : ℕ) → are_held words n ≡ true → (i : ℕ) → i < n → words i ≡ absent → ⊥
-held_at words zero h i less gone = absurd (omega (arith, less))
-held_at words (suc n) h i less gone = by_first (is_held (words n)) refl h (λ f l. held_at words n f i l gone)
+-- where all words may be written, each of them may
+pub held_at : (words : ℕ → Cell ℤ) (n : ℕ) → may_write_all words n ≡ true → (i : ℕ) → i < n → may_write (words i) ≡ true
+held_at words zero h i less = absurd (omega (arith, less))
+held_at words (suc n) h i less = by_first (may_write (words n)) refl h (λ f l. held_at words n f i l)
   where
-    no_held : is_held (words n) ≡ false → is_held (words n) ≡ true → ⊥
-    no_held e f = cc (sym e ∙ f)
-
-    by_first : (b : Bool) → is_held (words n) ≡ b → (b && are_held words n) ≡ true → (are_held words n ≡ true → i < n → ⊥) → ⊥
+    by_first : (b : Bool) → may_write (words n) ≡ b → (b && may_write_all words n) ≡ true → (may_write_all words n ≡ true → i < n → may_write (words i) ≡ true) → may_write (words i) ≡ true
     by_first false e h before = cc h
     by_first true e h before = elim (eqb_tells i n) [
-      | inl one ↦ no_held (sym (ap (λ j. is_held (words j)) one.1) ∙ ap is_held gone) e
+      | inl one ↦ ap (λ j. may_write (words j)) one.1 ∙ e
       | inr other ↦ let away = other.1 in before h (omega (arith, less, away))
     ]
 
@@ -115,7 +113,7 @@ module _ (program : Program) (page : ℕ) (code : Code) (calls : List ℕ) (fram
     pub slots : Holds program page calls frames (clear_words h d s i) w
     pub keeps : Kept program page k calls frames h w
     pub own : HasOwn program page ends calls frames w
-    pub mapped : (j : ℕ) → j < n → IsSome (w (first + 4 * j))
+    pub mapped : (j : ℕ) → j < n → IsWritable (w (first + 4 * j))
 
   -- one more
   clears_one : (i : ℕ) (w : Mapped) → i < n → Cleared i w → Cleared (suc i) (with_word w (first + 4 * i) 0)
@@ -143,7 +141,7 @@ module _ (program : Program) (page : ℕ) (code : Code) (calls : List ℕ) (fram
       × Cleared (suc i) t.words
   turn_runs i m less at zero_is value x =
       let room = there.below in
-      let old = some_of (m.words (first + 4 * i)) (x.mapped i less) in
+      let old = own_of (m.words (first + 4 * i)) (x.mapped i less) in
       let a = first + 4 * i in
       let u : Machine = record { registers = m.registers; counter = m.counter + 4; words = with_word m.words a (m.registers reg.ZERO) } in
       let one = put_runs code reg.ZERO reg.VALUE a old.0 m (subst (λ q. code q (sw reg.ZERO reg.VALUE (pos 0))) (sym at) there.there.0) (omega (arith, room, at)) value (omega (arith, aligned)) (omega (arith, below, less)) old.1 in
@@ -193,7 +191,7 @@ module _ (program : Program) (page : ℕ) (code : Code) (calls : List ℕ) (fram
       (3 + on.0, on.1, comes_on code 3 on.0 m (moved t p) on.1 three on.2, on.3, same_after ran.3 on.4, on.5)
 
   -- nothing is cleared at the beginning
-  pub cleared_first : (w : Mapped) → Holds program page calls frames h w → Kept program page k calls frames h w → HasOwn program page ends calls frames w → ((j : ℕ) → j < n → IsSome (w (first + 4 * j))) → Cleared 0 w
+  pub cleared_first : (w : Mapped) → Holds program page calls frames h w → Kept program page k calls frames h w → HasOwn program page ends calls frames w → ((j : ℕ) → j < n → IsWritable (w (first + 4 * j))) → Cleared 0 w
   cleared_first w slots keeps own mapped = record {
     slots = λ e t j low place. subst (λ c. HasCell program page c (w (word_address frames e (word_number (slots_at program calls e) t j))))
         (sym (same_cell program page calls frames h (clear_words h d s 0) e t j (cleared_none h d s e t j) refl)) (slots e t j low place);

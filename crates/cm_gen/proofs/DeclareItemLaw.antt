@@ -14,7 +14,8 @@ use Rattle.cm_syntax.specs.declared.stmt.Item as items
 use Rattle.cm_syntax.specs.declared.stmt.Program.{Program}
 use Rattle.cm_syntax.specs.Frame.{items_temporaries}
 use Rattle.cm_syntax.specs.Label.{silent, stuck}
-use Rattle.cm_syntax.specs.Stack.{Reference, Stack, are_held, clear_words}
+use Rattle.cm_syntax.specs.Cell.{value_in}
+use Rattle.cm_syntax.specs.Stack.{Reference, Stack, may_write_all, clear_words}
 use Rattle.cm_syntax.specs.Rest.{Item, evaluate, assign, declare, Hand, idle, control}
 use Rattle.cm_syntax.specs.Step.{declare_item, item_step}
 use Rattle.cm_meaning.specs.Activation.{end_count}
@@ -31,7 +32,7 @@ use Rattle.cm_gen.specs.Standing.{LeadsTo, StandsThen, slots_here, Coded}
 use Rattle.cm_gen.specs.StandsFor.{Spot, Placed, ExactAt, LeadsFrom}
 use Rattle.cm_gen.proofs.WordLaw as words
 use Rattle.cm_gen.proofs.Step.{comes_on}
-use Rattle.cm_gen.proofs.MappedWordLaw.{is_some_at}
+use Rattle.cm_gen.proofs.MappedWordLaw.{is_own_at}
 use Rattle.cm_gen.proofs.CellLaw.{own_place}
 use Rattle.cm_gen.proofs.StandingLaw.{parted, straight_end}
 use Rattle.cm_gen.proofs.StateLaw.{same_self, same_sets, same_after, exact_with, leads_on, leads_stuck, goes_behind, goes_on, by_held}
@@ -71,7 +72,7 @@ module _ (program : Program) (form : Form) (page limit : ℕ) (input : List ℤ)
 
     -- an array whose words are held is cleared
     array_by : (s n : ℕ) → slice_get slots s ≡ Some (slot.Array n) → 0 < n → IsWithin program page limit (f ∷ calls) (record { depth = length calls; slot = s; start = 0; length = n })
-        → (held : Bool) → are_held (h.words (length calls) s) n ≡ held → StandsThen code (straight (clear_array_code (slot_offset slots s) n)) later m.counter
+        → (held : Bool) → may_write_all (h.words (length calls) s) n ≡ held → StandsThen code (straight (clear_array_code (slot_offset slots s) n)) later m.counter
         → LeadsFrom program form page input code spot left (f ∷ calls) h (if held then silent (control (f ∷ calls) account idle (declare more ∷ k)) (clear_words h (length calls) s n) else stuck) m
     array_by s n is size within false held here = leads_stuck program form page input code
     array_by s n is size within true held here =
@@ -118,7 +119,7 @@ module _ (program : Program) (form : Form) (page limit : ℕ) (input : List ℤ)
         let all_words : t2.words ≡ m.words = does2.words ∙ does.words in
         let start = cleared_first program page code (f ∷ calls) spot.frames h (declare more ∷ k) (end_count l) (length calls) s n first t2.counter x.frames deep inside fits address row.aligned row.below third m.words x.slots kept x.own
         (λ j less. let old = held_word program page (f ∷ calls) spot.frames h m.words (length calls) s j x.slots deep (omega (arith, less, inside)) (held_at (h.words (length calls) s) n held j less) in
-        is_some_at (m.words (first + 4 * j)) old.0 (ap m.words (address j less) ∙ old.1)) in
+        is_own_at (m.words (first + 4 * j)) old.0 (ap m.words (address j less) ∙ old.1)) in
         let loop = clears program page code (f ∷ calls) spot.frames h (declare more ∷ k) (end_count l) (length calls) s n first t2.counter x.frames deep inside fits address row.aligned row.below third (n - 1) 0 t2
         (omega (arith, size)) refl (does2.kept reg.ZERO refl ∙ does.kept reg.ZERO refl ∙ x.zero_is) (does2.kept reg.VALUE refl ∙ does.value ∙ none) does2.value (subst (λ w. Cleared program page code (f ∷ calls) spot.frames h (declare more ∷ k) (end_count l) (length calls) s n first t2.counter x.frames deep inside fits address row.aligned row.below third 0 w) (sym all_words) start) in
         let t = loop.1 in
@@ -144,7 +145,7 @@ module _ (program : Program) (form : Form) (page limit : ℕ) (input : List ℤ)
         leads_on program form page input code ran.0 ran.1 ran.2 ran.3)
     declare_by s slot.Scalar (Some e) is size here rows =
         goes_on program form page input code x (evaluate e ∷ assign s ∷ declare more ∷ k) kept count (parted code (expression_code slots e 0) (straight (assign_code slots s)) later m.counter here)
-    declare_by s (slot.Array n) value is size here rows = array_by s n is size (rows n refl) (are_held (h.words (length calls) s) n) refl here
+    declare_by s (slot.Array n) value is size here rows = array_by s n is size (rows n refl) (may_write_all (h.words (length calls) s) n) refl here
     declare_by s slot.Slice value is size here rows = leads_stuck program form page input code
 
   pub declare_law : (row : List (items.Item ℕ)) (spot : Spot) (left : ℕ) (calls : List ℕ) (account : ℕ) (hand : Hand) (k : List Item) (h : Stack) (m : Machine) → IsNoCall program page limit hand
@@ -170,4 +171,4 @@ module _ (program : Program) (form : Form) (page limit : ℕ) (input : List ℤ)
           ((fits.0.0, room_less program page (f ∷ calls) (items_temporaries (y ∷ more)) (items_temporaries more) (omega arith) fits.0.1), fits.1)
           y.name.name y.slot y.first e formed.words.0.2 (parted code (item_code slots y.name.name y.slot y.first) (items_code slots more) (Coded program form page code k (f ∷ calls) spot.frames) m.counter here)
           (λ n is. row_within program page limit (f ∷ calls) account hand (declare (y ∷ more) ∷ k) h y.name.name (record { depth = length calls; slot = y.name.name; start = 0; length = n }) formed (omega arith)
-          (ap (λ o. row_in program page o (f ∷ calls) h y.name.name) (e ∙ ap (λ z. Some z) is)))
+          (ap (λ o. value_in (row_in program page o (f ∷ calls) h y.name.name)) (e ∙ ap (λ z. Some z) is)))

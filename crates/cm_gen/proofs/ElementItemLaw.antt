@@ -8,16 +8,17 @@ use Rattle.std.specs.Int.{w32}
 use Rattle.cm_isa.specs.Alu.{offset}
 use Rattle.cm_isa.specs.Action.{follow}
 use Rattle.cm_isa.specs.Operation.{Operation}
-use Rattle.cm_isa.specs.Machine.{Machine, Code}
+use Rattle.cm_isa.specs.Machine.{Machine, Code, reads}
 use Rattle.cm_isa.specs.Run.{replied_machine}
 use Rattle.cm_isa.specs.declared.convention.TheConstants as reg
 use Rattle.cm_syntax.specs.declared.stmt.Program.{Program}
 use Rattle.cm_syntax.specs.Operator.{natural}
 use Rattle.cm_syntax.specs.Trap as kind
 use Rattle.cm_syntax.specs.Label.{silent, traps}
-use Rattle.cm_syntax.specs.Stack.{present, Reference, Stack}
+use Rattle.cm_syntax.specs.Cell.{value_in}
+use Rattle.cm_syntax.specs.Stack.{Reference, Stack}
 use Rattle.cm_syntax.specs.Rest.{Item, element, read, Hand, holds, control}
-use Rattle.cm_syntax.specs.Step.{Move, is_index, when_present, give_input, item_step}
+use Rattle.cm_syntax.specs.Step.{Move, is_index, when_readable, give_input, item_step}
 use Rattle.cm_gen.specs.declared.form.Form.{Form}
 use Rattle.cm_gen.specs.Assembler.{lw}
 use Rattle.cm_gen.specs.Code.{service}
@@ -51,8 +52,8 @@ module _ (program : Program) (form : Form) (page limit : ℕ) (input : List ℤ)
     leads move = LeadsFrom program form page input code spot left calls h move m
 
     -- an element
-    module _ (a : ℕ) (v : ℤ) (r : Reference) (row : row_of program page calls h a ≡ present r) (within : IsWithin program page limit calls r)
-        (small : (d s i : ℕ) (w : ℤ) → h.words d s i ≡ present w → FitsSigned w32 w)
+    module _ (a : ℕ) (v : ℤ) (r : Reference) (row : value_in (row_of program page calls h a) ≡ Some r) (within : IsWithin program page limit calls r)
+        (small : (d s i : ℕ) (w : ℤ) → value_in (h.words d s i) ≡ Some w → FitsSigned w32 w)
         (x : exact (holds v) (element a ∷ k)) (here : placed (holds v) (element a ∷ k)) where
       abbrev locates : List Operation
       locates = locate_code (slots_here program calls) a
@@ -63,7 +64,7 @@ module _ (program : Program) (form : Form) (page limit : ℕ) (input : List ℤ)
       at : IsCodeAt code m.counter (element_code (slots_here program calls) a)
       at = code_at code (element_code (slots_here program calls) a) (coded k) m.counter (let e = length-append locates (lw reg.VALUE reg.VALUE (pos 0) ∷ []) in omega (arith, e)) here.2
 
-      element_loads : is_index v r.length ≡ true → leads (when_present (h.words r.depth r.slot (r.start + natural v)) (λ w. silent (control calls account (holds w) k) h))
+      element_loads : is_index v r.length ≡ true → leads (when_readable (h.words r.depth r.slot (r.start + natural v)) (λ w. silent (control calls account (holds w) k) h))
       element_loads index = by_present program form page input code (h.words r.depth r.slot (r.start + natural v)) _ (λ w e.
           let size = length-append locates (lw reg.VALUE reg.VALUE (pos 0) ∷ []) in
           let number = index_is v r.length here.1 index in
@@ -77,8 +78,8 @@ module _ (program : Program) (form : Form) (page limit : ℕ) (input : List ℤ)
           let s = first.0 in
           let does = first.2 in
           let place = does.counter in
-          let there : m.words target ≡ Some (bits w) = ap m.words address ∙ word_there program page limit calls spot.frames h m.words r.depth r.slot (r.start + natural v) w x.slots is.live (omega (arith, ends, less)) e in
-          let here_too : s.words target ≡ Some (bits w) = ap (λ z. z target) does.words ∙ there in
+          let there : reads (m.words target) ≡ Some (bits w) = ap (λ a. reads (m.words a)) address ∙ word_there program page limit calls spot.frames h m.words r.depth r.slot (r.start + natural v) w x.slots is.live (omega (arith, ends, less)) e in
+          let here_too : reads (s.words target) ≡ Some (bits w) = ap (λ z. reads (z target)) does.words ∙ there in
           let load = code_back code locates (lw reg.VALUE reg.VALUE (pos 0) ∷ []) place at in
           let room = load.below in
           let found : offset (s.registers reg.VALUE) (pos 0) ≡ target = ap (λ z. offset z (pos 0)) does.address ∙ words.offset_up target 0 (omega (arith, below, less)) ∙ omega arith in
@@ -102,7 +103,7 @@ module _ (program : Program) (form : Form) (page limit : ℕ) (input : List ℤ)
           let trap = locate_traps program page code calls spot.frames h a r v m (at_base program form page input code spot left (control calls account (holds v) (element a ∷ k)) h m x) row is here.0 here.1 index (code_front code locates (lw reg.VALUE reg.VALUE (pos 0) ∷ []) at) in
           leads_to program form page input code _ trap.0 trap.1 (record { there = trap.2; number_is = trap.3 }, trap.4 ∙ x.left_is)
 
-      element_by : (b : Bool) → is_index v r.length ≡ b → leads (if b then when_present (h.words r.depth r.slot (r.start + natural v)) (λ w. silent (control calls account (holds w) k) h) else traps kind.Index)
+      element_by : (b : Bool) → is_index v r.length ≡ b → leads (if b then when_readable (h.words r.depth r.slot (r.start + natural v)) (λ w. silent (control calls account (holds w) k) h) else traps kind.Index)
       element_by true index = element_loads index
       element_by false index = element_traps index
 

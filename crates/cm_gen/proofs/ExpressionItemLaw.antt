@@ -6,7 +6,7 @@ use Rattle.std.specs.Int.{w32}
 use Rattle.cm_isa.specs.Alu.{offset}
 use Rattle.cm_isa.specs.Action.{follow}
 use Rattle.cm_isa.specs.Operation.{Operation}
-use Rattle.cm_isa.specs.Machine.{Machine, Mapped, Code}
+use Rattle.cm_isa.specs.Machine.{Machine, Mapped, Code, reads}
 use Rattle.cm_isa.specs.Run.{ComesTo, replied_machine}
 use Rattle.cm_isa.specs.declared.convention.TheConstants as reg
 use Rattle.cm_syntax.specs.declared.expr.Op.TheVariants as op
@@ -17,9 +17,10 @@ use Rattle.cm_syntax.specs.declared.stmt.Slot.TheVariants as slot
 use Rattle.cm_syntax.specs.declared.stmt.Program.{Program}
 use Rattle.cm_syntax.specs.Shape.{Joined, Prefixed, Element, InputAt}
 use Rattle.cm_syntax.specs.Label.{silent}
-use Rattle.cm_syntax.specs.Stack.{present, Reference, Stack}
+use Rattle.cm_syntax.specs.Cell.{value_in}
+use Rattle.cm_syntax.specs.Stack.{Reference, Stack}
 use Rattle.cm_syntax.specs.Rest.{called, Item, evaluate, right, prefix, both, either, element, read, arguments, take_back, Hand, idle, holds, Control, control}
-use Rattle.cm_syntax.specs.Step.{Move, top, slots_in, scalar_slice, slot_at, slice_in, when_present, evaluate_step, item_step}
+use Rattle.cm_syntax.specs.Step.{Move, top, slots_in, scalar_slice, slot_at, slice_in, when_readable, evaluate_step, item_step}
 use Rattle.cm_meaning.specs.Activation.{end_count}
 use Rattle.cm_meaning.specs.TypedState.{slots_at, row_words}
 use Rattle.cm_gen.specs.declared.form.Form.{Form}
@@ -29,13 +30,13 @@ use Rattle.cm_gen.specs.Part.{Part, call, straight}
 use Rattle.cm_gen.specs.Expression.{slot_offset, length_in, length_code, take_back_code, expression_code, arguments_code}
 use Rattle.cm_gen.specs.Statement.{enter_code}
 use Rattle.cm_gen.specs.Standing.{LeadsTo, StandsThen, Frame, used, slots_here, form_here, Coded}
-use Rattle.cm_gen.specs.FrameWord.{bits, word_number, word_address, pointer_of, AreFrames, HasCell, value_cell, Holds, Kept, row_in, row_of}
+use Rattle.cm_gen.specs.FrameWord.{bits, word_number, word_address, pointer_of, AreFrames, HasCell, Holds, Kept, row_in, row_of}
 use Rattle.cm_gen.specs.StandsFor.{Spot, stays, hears, Placed, ExactAt, LeadsFrom}
 use Rattle.cm_gen.specs.Formed.{Formed}
 use Rattle.cm_gen.proofs.PatternLaw.{Sets, load_number_runs, load_slot_runs}
 use Rattle.cm_gen.proofs.StandingLaw.{parted, leads_map, straight_end}
 use Rattle.cm_gen.proofs.FrameWordLaw.{slots_top, slot_at_offset}
-use Rattle.cm_gen.proofs.CellLaw.{own_place, own_cell}
+use Rattle.cm_gen.proofs.CellLaw.{own_place, own_cell, has_value}
 use Rattle.cm_gen.proofs.StateLaw.{SameRegisters, same_sets, exact_same, leads_to, leads_stuck, goes_on, gives_value, by_present}
 use Rattle.cm_gen.proofs.ValueFitsLaw.{natural_fits}
 use Rattle.cm_gen.proofs.FactLaw.{Opened, IsNoCall, opened, row_within, number_fits}
@@ -74,17 +75,17 @@ module _ (program : Program) (page limit : ℕ) where
 
   -- a word that is present is where it belongs
   pub word_there : (calls : List ℕ) (frames : List Frame) (h : Stack) (w : Mapped) (d s i : ℕ) (v : ℤ) → Holds program page calls frames h w → d < length calls → i < row_words (slice_get (slots_at program calls d) s)
-      → h.words d s i ≡ present v → w (word_address frames d (word_number (slots_at program calls d) s i)) ≡ Some (bits v)
+      → value_in (h.words d s i) ≡ Some v → reads (w (word_address frames d (word_number (slots_at program calls d) s i))) ≡ Some (bits v)
   word_there calls frames h w d s i v hold deep less e =
-      subst (λ c. HasCell program page c (w (word_address frames d (word_number (slots_at program calls d) s i))))
-      (own_cell program page calls frames h d s i less ∙ ap (value_cell program page) e) (hold d s i deep (own_place (slots_at program calls d) s i less))
+      has_value program page (h.words d s i) v (w (word_address frames d (word_number (slots_at program calls d) s i))) e
+      (subst (λ c. HasCell program page c (w (word_address frames d (word_number (slots_at program calls d) s i)))) (own_cell program page calls frames h d s i less) (hold d s i deep (own_place (slots_at program calls d) s i less)))
 
   -- ---- loads
 
   module _ (code : Code) (f : ℕ) (calls : List ℕ) (frames : List Frame) (h : Stack) where
     -- a scalar's value
     pub scalar_runs : (s r : ℕ) (v : ℤ) (m : Machine) → AreFrames program page (f ∷ calls) frames → Holds program page (f ∷ calls) frames h m.words → m.registers reg.FP ≡ pointer_of frames
-        → slice_get (slots_here program (f ∷ calls)) s ≡ Some slot.Scalar → h.words (length calls) s 0 ≡ present v → (r == reg.ZERO) ≡ false → (reg.FP == r) ≡ false
+        → slice_get (slots_here program (f ∷ calls)) s ≡ Some slot.Scalar → value_in (h.words (length calls) s 0) ≡ Some v → (r == reg.ZERO) ≡ false → (reg.FP == r) ≡ false
         → IsCodeAt code m.counter (load_slot r (slot_offset (slots_here program (f ∷ calls)) s))
         → let size = length (load_slot r (slot_offset (slots_here program (f ∷ calls)) s)) in
         (t : Machine) × ComesTo code size m t × Sets r (bits v) (4 * size) m t
@@ -94,19 +95,19 @@ module _ (program : Program) (page limit : ℕ) where
         let top_is = slots_top program page f calls in
         let one : 0 < row_words (slice_get slots s) = rw kind (omega arith) in
         let off = slot_at_offset program page f calls frames s shape (own_place slots s 0 one) in
-        let there = subst (λ l. m.words (word_address frames (length calls) (word_number l s 0)) ≡ Some (bits v)) top_is
+        let there = subst (λ l. reads (m.words (word_address frames (length calls) (word_number l s 0))) ≡ Some (bits v)) top_is
         (word_there (f ∷ calls) frames h m.words (length calls) s 0 v hold (omega arith) (subst (λ l. 0 < row_words (slice_get l s)) (sym top_is) one) e) in
         let below = here.below in
         load_slot_runs code r o _ (bits v) m nonzero other (subst (λ p. p < 2 ^ 32) (sym pointer) off.fits) (ap (λ p. offset p o) pointer ∙ off.address) off.aligned there (omega (arith, below)) here.there
 
 -- the code of a length of a slot that is there
-length_some : (program : Program) (page : ℕ) (calls : List ℕ) (h : Stack) (a : ℕ) (r : Reference) → row_of program page calls h a ≡ present r → 0 < length (length_code (slots_here program calls) a)
+length_some : (program : Program) (page : ℕ) (calls : List ℕ) (h : Stack) (a : ℕ) (r : Reference) → value_in (row_of program page calls h a) ≡ Some r → 0 < length (length_code (slots_here program calls) a)
 length_some program page calls h a r row = by_kind (slice_get (slots_here program calls) a) row
   where
     o : ℤ
     o = slot_offset (slots_here program calls) a
 
-    by_kind : (kind : Option Slot) → row_in program page kind calls h a ≡ present r → 0 < length (length_in kind o)
+    by_kind : (kind : Option Slot) → value_in (row_in program page kind calls h a) ≡ Some r → 0 < length (length_in kind o)
     by_kind None e = cc e
     by_kind (Some slot.Scalar) e = load_number_some reg.VALUE (pos 1)
     by_kind (Some (slot.Array n)) e = load_number_some reg.VALUE (pos n)
@@ -183,7 +184,7 @@ module _ (program : Program) (form : Form) (page limit : ℕ) (input : List ℤ)
   -- ---- the words of a slot
 
   by_row : {spot : Spot} {left : ℕ} {all : List ℕ} {g : Stack} {m : Machine} (o : Option Slot) (calls : List ℕ) (h : Stack) (a : ℕ) (f : Reference → Move)
-      → ((r : Reference) → row_in program page o calls h a ≡ present r → LeadsFrom program form page input code spot left all g (f r) m)
+      → ((r : Reference) → value_in (row_in program page o calls h a) ≡ Some r → LeadsFrom program form page input code spot left all g (f r) m)
       → LeadsFrom program form page input code spot left all g (slice_in calls h o a f) m
   by_row None calls h a f law = leads_stuck program form page input code
   by_row (Some slot.Scalar) calls h a f law = law (scalar_slice (top calls) a) refl
@@ -192,7 +193,7 @@ module _ (program : Program) (form : Form) (page limit : ℕ) (input : List ℤ)
 
   -- a step on the words of a slot that is there
   pub by_slice : {spot : Spot} {left : ℕ} {all : List ℕ} {g : Stack} {m : Machine} (calls : List ℕ) (h : Stack) (a : ℕ) (f : Reference → Move)
-      → ((r : Reference) → row_of program page calls h a ≡ present r → LeadsFrom program form page input code spot left all g (f r) m)
+      → ((r : Reference) → value_in (row_of program page calls h a) ≡ Some r → LeadsFrom program form page input code spot left all g (f r) m)
       → LeadsFrom program form page input code spot left all g (slice_in calls h (slot_at program page input calls a) a f) m
   by_slice [] h a f law = leads_stuck program form page input code
   by_slice (c ∷ calls) h a f law = by_row (slice_get (slots_here program (c ∷ calls)) a) (c ∷ calls) h a f law
@@ -201,10 +202,10 @@ module _ (program : Program) (form : Form) (page limit : ℕ) (input : List ℤ)
 
   -- a variable
   scalar_by : (spot : Spot) (left f : ℕ) (calls : List ℕ) (account : ℕ) (hand : Hand) (s : ℕ) (l k : List Item) (h : Stack) (m : Machine) → slice_get (slots_here program (f ∷ calls)) s ≡ Some slot.Scalar
-      → ((v : ℤ) → h.words (length calls) s 0 ≡ present v → FitsSigned w32 v) → ExactAt program form page input code spot left (control (f ∷ calls) account hand l) h m
+      → ((v : ℤ) → value_in (h.words (length calls) s 0) ≡ Some v → FitsSigned w32 v) → ExactAt program form page input code spot left (control (f ∷ calls) account hand l) h m
       → Kept program page k (f ∷ calls) spot.frames h m.words → end_count k ≡ end_count l
       → StandsThen code (straight (load_slot reg.VALUE (slot_offset (slots_here program (f ∷ calls)) s))) (Coded program form page code k (f ∷ calls) spot.frames) m.counter
-      → LeadsFrom program form page input code spot left (f ∷ calls) h (when_present (h.words (length calls) s 0) (λ v. silent (control (f ∷ calls) account (holds v) k) h)) m
+      → LeadsFrom program form page input code spot left (f ∷ calls) h (when_readable (h.words (length calls) s 0) (λ v. silent (control (f ∷ calls) account (holds v) k) h)) m
   scalar_by spot left f calls account hand s l k h m kind small x keeps count c =
       let o = slot_offset (slots_here program (f ∷ calls)) s in
       let at = code_at code (load_slot reg.VALUE o) (Coded program form page code k (f ∷ calls) spot.frames) m.counter (load_slot_some reg.VALUE o) c in

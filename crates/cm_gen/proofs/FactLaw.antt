@@ -1,7 +1,9 @@
 -- What a formed state says of the item that its step does: the running function, and that what the item names is of its kind.
-use Rattle.std.proofs.Common.{◌≡◌, ℕ, zero, suc, ◌+◌, ◌<◌, ◌≤◌, List, [], ◌∷◌, ◌++◌, length, Option, None, Some, refl, sym, ◌∙◌, subst, arith, append-nil}
-use Rattle.std.specs.Prelude.{Bool, true, false, ◌==◌, if◌then◌else◌, ℤ, pos, FitsSigned, Contains, slice_get}
+use Rattle.std.proofs.Common.{◌≡◌, ℕ, zero, suc, ◌+◌, ◌<◌, ◌≤◌, List, [], ◌∷◌, ◌++◌, length, Option, None, Some, refl, sym, ◌∙◌, subst, arith, append-nil, ap}
+use Rattle.std.specs.Prelude.{Bool, true, false, ◌==◌, if◌then◌else◌, ℤ, pos, FitsSigned, Contains, slice_get, nat_lt}
 use Rattle.std.proofs.lemmas.Option.{slice_get_within, get_or_from_slice_get}
+use Rattle.std.proofs.lemmas.Bool.{ltb-true, ltb-false}
+use Rattle.cm_syntax.proofs.CellLaw.{value_sum}
 use Rattle.cm_syntax.proofs.naming.SoundLaw.{sound_frame}
 use Rattle.std.specs.Int.{w32}
 use Rattle.cm_syntax.specs.declared.expr.Expr.TheVariants.{Number}
@@ -11,7 +13,8 @@ use Rattle.cm_syntax.specs.declared.stmt.Function.{Function}
 use Rattle.cm_syntax.specs.declared.stmt.Program.{Program}
 use Rattle.cm_syntax.specs.Fault.{IsSoundProgram}
 use Rattle.cm_syntax.specs.Frame.{slot_words, slots_words}
-use Rattle.cm_syntax.specs.Stack.{Cell, absent, unset, present, Reference, Stack}
+use Rattle.cm_syntax.specs.Cell.{Cell, absent, unset, present, value_in, may_write, shared}
+use Rattle.cm_syntax.specs.Stack.{Reference, Stack}
 use Rattle.cm_syntax.specs.Rest.{Item, evaluate, deliver, join, end, Hand, idle, holds, returned, entering, framing, Control, control}
 use Rattle.cm_syntax.specs.Step.{slots_in}
 use Rattle.cm_meaning.specs.TypedState.{back, at_hand, slots_at, row_words, AreSet, Inner, Outer, Running, Ready, TypedState}
@@ -22,23 +25,36 @@ use Rattle.cm_gen.specs.FrameWord.{words_in_slot, IsPlace, row_in, row_of}
 use Rattle.cm_gen.proofs.ValueFitsLaw.{natural_fits}
 use Rattle.cm_gen.specs.Formed.{Within, alone, before, within, IsPart, IsPartOf, Formed}
 
-pub absent_free : {A : Type 0} (v : A) → absent ≡ present v → ⊥
+pub absent_free : {A : Type 0} (v : A) → value_in {A = A} absent ≡ Some v → ⊥
 absent_free v e = cc e
 
-pub unset_free : {A : Type 0} (v : A) → unset ≡ present v → ⊥
+pub unset_free : {A : Type 0} (v : A) → value_in {A = A} unset ≡ Some v → ⊥
 unset_free v e = cc e
 
-pub same_present : {A : Type 0} (v w : A) → present v ≡ present w → v ≡ w
+pub same_present : {A : Type 0} (v w : A) → Some v ≡ Some w → v ≡ w
 same_present v w e = cc e
 
 pub cons_empty : (x : Item) (k : List Item) → (x ∷ k) ≡ [] → ⊥
 cons_empty x k e = cc e
 
 -- what a cell has that is a part of another one, the other one has
-pub part_has : {A : Type 0} (a b : Cell A) (v : A) → IsPart a b → a ≡ present v → b ≡ present v
-part_has absent b v p e = absurd (absent_free v e)
-part_has unset b v p e = absurd (unset_free v e)
-part_has (present w) b v p e = p ∙ e
+pub part_has : {A : Type 0} (a b : Cell A) (v : A) → IsPart a b → value_in a ≡ Some v → value_in b ≡ Some v
+part_has a b v p e = value_sum a p.0 b v p.1 e
+
+-- what is held whole and has a value is present
+pub whole_has : {A : Type 0} (a : Cell A) (v : A) → may_write a ≡ true → value_in a ≡ Some v → a ≡ present v
+whole_has absent v m e = cc e
+whole_has unset v m e = cc e
+whole_has (present w) v m e = cc e
+whole_has (shared q w) v m e = cc m
+
+-- a reference of a typed state is held whole
+pub typed_reference : (program : Program) (gives : Bool) (c : Control) (h : Stack) (d s : ℕ) (r : Reference) → TypedState program gives c h → value_in (h.references d s) ≡ Some r → h.references d s ≡ present r
+typed_reference program gives c h d s r t e = by (nat_lt d (length c.calls)) refl
+  where
+    by : (b : Bool) → nat_lt d (length c.calls) ≡ b → h.references d s ≡ present r
+    by true l = whole_has (h.references d s) r (t.references d s (ltb-true d (length c.calls) l)) e
+    by false l = absurd (absent_free r (sym (ap value_in (t.below.references d s (let m = ltb-false d (length c.calls) l in omega (arith, m)))) ∙ e))
 
 -- the calls of a state in its context, and its rest
 pub context_calls : (context : Within) (c : Control) → (within context c).calls ≡ c.calls
@@ -163,14 +179,14 @@ module _ (program : Program) (page limit : ℕ) where
   is_within : (calls : List ℕ) (r : Reference) → r.depth < length calls → r.start + r.length ≤ row_words (slice_get (slots_at program calls r.depth) r.slot) → IsWithin calls r
   is_within calls r l w = record { live = l; places = λ i m. omega (arith, w, m, row_in_slot (slice_get (slots_at program calls r.depth) r.slot)); ends = w }
 
-  pub references_within : (c : Control) (h : Stack) (d s : ℕ) (r : Reference) → Formed program page limit c h → h.references d s ≡ present r → IsWithin c.calls r
+  pub references_within : (c : Control) (h : Stack) (d s : ℕ) (r : Reference) → Formed program page limit c h → value_in (h.references d s) ≡ Some r → IsWithin c.calls r
   references_within c h d s r x e =
-      let q = (x.typed.refers d s r (part_has (h.references d s) (x.whole.references d s) r (x.is_part.references d s) e)).1 in
+      let q = (x.typed.refers d s r (typed_reference program x.gives (within x.context c) x.whole d s r x.typed (part_has (h.references d s) (x.whole.references d s) r (x.is_part.references d s) e))).1 in
       subst (λ calls. IsWithin calls r) (context_calls x.context c) (is_within (within x.context c).calls r q.live q.within)
 
   -- the words of a slot of the running function that is an array, a slice, or a scalar
   pub row_within : (calls : List ℕ) (account : ℕ) (hand : Hand) (k : List Item) (h : Stack) (a : ℕ) (r : Reference) → Formed program page limit (control calls account hand k) h
-      → 0 < length calls → row_of program page calls h a ≡ present r → IsWithin calls r
+      → 0 < length calls → value_in (row_of program page calls h a) ≡ Some r → IsWithin calls r
   row_within [] account hand k h a r x some e = absurd (no_less 0 some)
   row_within (f ∷ calls) account hand k h a r x some e = by (slice_get (slots_here program (f ∷ calls)) a) refl e
     where
@@ -180,7 +196,7 @@ module _ (program : Program) (page limit : ℕ) where
       own : (n : ℕ) → n ≤ row_words (slice_get (slots_here program (f ∷ calls)) a) → IsWithin (f ∷ calls) (record { depth = length calls; slot = a; start = 0; length = n })
       own n l = is_within (f ∷ calls) _ (omega arith) (subst (λ z. 0 + n ≤ row_words (slice_get z a)) (sym here) (omega (arith, l)))
 
-      by : (kind : Option Slot) → slice_get (slots_here program (f ∷ calls)) a ≡ kind → row_in program page kind (f ∷ calls) h a ≡ present r → IsWithin (f ∷ calls) r
+      by : (kind : Option Slot) → slice_get (slots_here program (f ∷ calls)) a ≡ kind → value_in (row_in program page kind (f ∷ calls) h a) ≡ Some r → IsWithin (f ∷ calls) r
       by None i e = absurd (absent_free r e)
       by (Some slot.Scalar) i e = subst (IsWithin (f ∷ calls)) (same_present _ r e) (own 1 (subst (λ z. 1 ≤ row_words z) (sym i) (omega arith)))
       by (Some (slot.Array n)) i e = subst (IsWithin (f ∷ calls)) (same_present _ r e) (own n (subst (λ z. n ≤ row_words z) (sym i) (omega arith)))

@@ -1,17 +1,18 @@
 -- A state that stands needs only the words that it speaks of.
-use Rattle.std.proofs.Common.{◌≡◌, ℕ, ◌+◌, ◌-◌, ◌*◌, ◌<◌, ◌≤◌, List, [], ◌∷◌, length, Option, refl, sym, ◌∙◌, subst, arith, inl, inr}
-use Rattle.std.specs.Prelude.{ℤ, IsSome}
-use Rattle.cm_isa.specs.Machine.{Machine, Mapped, Code}
+use Rattle.std.proofs.Common.{◌≡◌, ℕ, ◌+◌, ◌-◌, ◌*◌, ◌<◌, ◌≤◌, List, [], ◌∷◌, length, refl, sym, ◌∙◌, subst, arith, inl, inr}
+use Rattle.std.specs.Prelude.{ℤ}
+use Rattle.cm_isa.specs.Machine.{Machine, Mapped, Code, IsWritable}
 use Rattle.cm_syntax.specs.declared.stmt.Program.{Program}
-use Rattle.cm_syntax.specs.Stack.{Cell, absent, unset, present, Stack, Argument, word, slice}
+use Rattle.cm_syntax.specs.Stack.{Stack, Argument, word, slice}
 use Rattle.cm_syntax.specs.Rest.{Item, apply, arguments, pass, store, join, end, Hand, entering, framing, Control}
 use Rattle.cm_meaning.specs.TypedState.{slots_at}
 use Rattle.cm_meaning.specs.Activation.{IsInner, IsLeaving, IsOuter, FitsHand, end_count}
 use Rattle.cm_gen.specs.declared.form.Form.{Form}
 use Rattle.cm_gen.specs.Standing.{Frame, used, arguments_size, slots_here}
-use Rattle.cm_gen.specs.FrameWord.{IsOwnNumber, temporary_number, words_at, word_address, AreFrames, HasCell, cell_at, HasTemporary, HasArguments, Kept, Touches, of_slot, of_call}
+use Rattle.cm_gen.specs.FrameWord.{IsOwnNumber, temporary_number, words_at, word_address, AreFrames, cell_at, HasTemporary, HasArguments, Kept, Touches, of_slot, of_call}
 use Rattle.cm_gen.specs.Formed.{HasRoom, RestFits, Formed}
 use Rattle.cm_gen.specs.StandsFor.{Spot, ExactAt, with_words}
+use Rattle.cm_gen.proofs.CellLaw.{has_same}
 use Rattle.cm_gen.proofs.FrameWordLaw.{temporary_word, slots_top, slots_before, words_before, words_top, address_before, address_top}
 
 -- a rest whose first frame may be at the end of its call
@@ -110,11 +111,6 @@ module _ (program : Program) (page : ℕ) where
           (same d n (omega (arith, deep)) (omega (arith, ends)) low (omega (arith, high, many)) (subst (λ s. IsOwnNumber s n) (sym slots) own))
   kept_same (_ ∷ k) calls frames h v w shaped fits shape same kept = kept_same k calls frames h v w (inner_shaped k shaped) fits.1 shape same kept
 
-  cell_same : (cell : Cell ℕ) (x y : Option ℕ) → ((cell ≡ absent → ⊥) → x ≡ y) → HasCell program page cell y → HasCell program page cell x
-  cell_same absent x y same h = tt
-  cell_same unset x y same h = subst IsSome (sym (same (λ e. cc))) h
-  cell_same (present n) x y same h = same (λ e. cc) ∙ h
-
   -- where the words that it speaks of are as they were, a state that stands stands
   pub stands_with : (form : Form) (limit : ℕ) (input : List ℤ) (code : Code) (spot : Spot) (left : ℕ) (c : Control) (h : Stack) (m : Machine) (w : Mapped) → Formed program page limit c h
       → ExactAt program form page input code spot left c h m → ((a : ℕ) → Touches program page c.calls spot.frames h (end_count c.rest) a → w a ≡ m.words a)
@@ -122,10 +118,10 @@ module _ (program : Program) (page : ℕ) where
   stands_with form limit input code spot left c h m w formed x same = record {
     frames = x.frames;
     may_stand = x.may_stand;
-    slots = λ d s i deep place. cell_same (cell_at program page c.calls spot.frames h d s i) _ _ (λ some. same _ (of_slot d s i deep place some refl)) (x.slots d s i deep place);
+    slots = λ d s i deep place. has_same program page (cell_at program page c.calls spot.frames h d s i) _ _ (λ some. same _ (of_slot d s i deep place some refl)) (x.slots d s i deep place);
     kept = kept_same c.rest c.calls spot.frames h w m.words (hand_shaped c.hand c.rest formed.settled.shape) formed.fits x.frames
         (λ d n deep ends low high own. same _ (of_call d n deep ends low high own refl)) x.kept;
-    own = λ d n deep ends low high own. subst IsSome (sym (same _ (of_call d n deep ends low high own refl))) (x.own d n deep ends low high own);
+    own = λ d n deep ends low high own. subst IsWritable (sym (same _ (of_call d n deep ends low high own refl))) (x.own d n deep ends low high own);
     zero_is = x.zero_is;
     low_is = x.low_is;
     account_is = x.account_is;

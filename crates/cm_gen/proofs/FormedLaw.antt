@@ -25,9 +25,10 @@ use Rattle.cm_syntax.proofs.FrameLaw.{temporaries_at_least}
 use Rattle.cm_syntax.specs.Trap as kind
 use Rattle.cm_syntax.specs.Label.{silent, ticks, prints, spawns, syncs, traps}
 use Rattle.cm_syntax.specs.Operator.{is_zero, natural, binary_value, divides, unary_value}
-use Rattle.cm_syntax.specs.Stack.{Cell, absent, unset, present, Reference, Stack, Destination, Argument, word, slice, are_held, write_word, clear_words, write_parts, push_frame, pop_frame, lent_stack, kept_stack, empty_stack, IsUnder}
+use Rattle.cm_syntax.specs.Cell.{Cell, absent, value_in}
+use Rattle.cm_syntax.specs.Stack.{Reference, Stack, Destination, Argument, word, slice, may_write_all, write_word, clear_words, write_parts, push_frame, pop_frame, lent_stack, kept_stack, empty_stack, IsUnder}
 use Rattle.cm_syntax.specs.Rest.{Purpose, called, spawned, Item, evaluate, right, apply, prefix, both, either, truth, element, read, arguments, pass, take_back, discard, deliver, perform, sequence, body, declare, assign, update, locate, store, branch, turn, test, part, tick, show, exit, fall, join, end, Hand, idle, holds, returned, entering, framing, Control, control}
-use Rattle.cm_syntax.specs.Step.{Move, inside, start_of, hand_value, rest_at_join, when_present, when_held, when_value, when_result, when_some, go_on, hold, write_step, leave, is_index, is_split, scalar_slice, slice_in, slots_in, call_bytes_in, destination_slot, invoke, spawn_call, enter_call, take_value, drop_value, deliver_value, declare_item, do_other, fall_off, when_slice, push_call, give_input, evaluate_step, statement_step, item_step, step}
+use Rattle.cm_syntax.specs.Step.{Move, inside, start_of, hand_value, rest_at_join, when_readable, when_writable, when_value, when_result, when_some, go_on, hold, write_step, leave, is_index, is_split, scalar_slice, slice_in, slots_in, call_bytes_in, destination_slot, invoke, spawn_call, enter_call, take_value, drop_value, deliver_value, declare_item, do_other, fall_off, when_slice, push_call, give_input, evaluate_step, statement_step, item_step, step}
 use Rattle.cm_meaning.specs.Typing.{GivesWanted, TypedInvocation, TypedStatement}
 use Rattle.cm_meaning.specs.TypedState.{nothing, value, back, at_hand, at_join, behind_call, Inner, Outer, Running, TypedState, KeepsTyped}
 use Rattle.cm_meaning.specs.Law.{IsBeside, IsInside, arrival}
@@ -49,6 +50,7 @@ use Rattle.cm_gen.proofs.FactLaw.{cons_empty, context_calls, IsNoCall, IsNoEnd, 
 use Rattle.cm_gen.proofs.LiteralLaw.{sound_literals}
 use Rattle.cm_gen.proofs.ValueFitsLaw.{natural_fits, binary_fits, unary_fits}
 use Rattle.cm_gen.proofs.PartLaw.{part_of_part, lent_part, kept_part, popped_part, part_of_sum, others, others_sum, others_under, StackFits, empty_fits, part_fits, write_fits, clear_fits, pop_fits, push_fits}
+use Rattle.cm_syntax.proofs.AccessLaw.{reading, writing}
 
 gives_of_wanted : (g : Option (Function ℕ)) → GivesWanted true g → Gives g
 gives_of_wanted None h = h
@@ -104,7 +106,7 @@ module _ (program : Program) (page limit : ℕ) (input : List ℤ) (runs : Runs 
   -- a state with a running function
   module _ (f : ℕ) (callers : List ℕ) (account : ℕ) (hand : Hand) (rest : List Item) (h : Stack) (Continues : Control → Type 0)
       (small : StackFits h) (balance : account + taken program page (f ∷ callers) ≡ limit)
-      (lengths : (a : ℕ) (r : Reference) → row_of program page (f ∷ callers) h a ≡ present r → FitsSigned w32 (pos r.length)) where
+      (lengths : (a : ℕ) (r : Reference) → value_in (row_of program page (f ∷ callers) h a) ≡ Some r → FitsSigned w32 (pos r.length)) where
     abbrev live : List ℕ
     live = f ∷ callers
 
@@ -139,15 +141,11 @@ module _ (program : Program) (page limit : ℕ) (input : List ℤ) (runs : Runs 
 
     -- ---- what a step needs
 
-    ok_present : {A : Type 0} (y : Cell A) (m : A → Move) → ((v : A) → y ≡ present v → Ok (m v)) → Ok (when_present y m)
-    ok_present absent m g = tt
-    ok_present unset m g = tt
-    ok_present (present v) m g = g v refl
+    ok_present : {A : Type 0} (y : Cell A) (m : A → Move) → ((v : A) → value_in y ≡ Some v → Ok (m v)) → Ok (when_readable y m)
+    ok_present y m g = reading Ok tt y m g
 
-    ok_held : {A : Type 0} (y : Cell A) (m : Move) → Ok m → Ok (when_held y m)
-    ok_held absent m g = tt
-    ok_held unset m g = g
-    ok_held (present v) m g = g
+    ok_held : {A : Type 0} (y : Cell A) (m : Move) → Ok m → Ok (when_writable y m)
+    ok_held y m g = writing Ok tt y m (λ e. g)
 
     ok_value : (z : Hand) (k : List Item) (m : ℤ → Move) → HandFits program page z k → ((v : ℤ) → FitsSigned w32 v → Ok (m v)) → Ok (when_value z m)
     ok_value (holds v) k m p g = g v p
@@ -171,10 +169,10 @@ module _ (program : Program) (page limit : ℕ) (input : List ℤ) (runs : Runs 
         by None e = tt
         by (Some v) e = g v (unary_fits o a v x e)
 
-    ok_slice : (a : ℕ) (m : Reference → Move) → ((r : Reference) → row_of program page live h a ≡ present r → Ok (m r)) → Ok (when_slice program page input c h a m)
+    ok_slice : (a : ℕ) (m : Reference → Move) → ((r : Reference) → value_in (row_of program page live h a) ≡ Some r → Ok (m r)) → Ok (when_slice program page input c h a m)
     ok_slice a m g = by (slice_get (slots_here program live) a) g
       where
-        by : (z : Option Slot) → ((r : Reference) → row_in program page z live h a ≡ present r → Ok (m r)) → Ok (slice_in live h z a m)
+        by : (z : Option Slot) → ((r : Reference) → value_in (row_in program page z live h a) ≡ Some r → Ok (m r)) → Ok (slice_in live h z a m)
         by None g = tt
         by (Some slot.Scalar) g = g _ refl
         by (Some (slot.Array n)) g = g _ refl
@@ -182,7 +180,7 @@ module _ (program : Program) (page limit : ℕ) (input : List ℤ) (runs : Runs 
 
     ok_write : (d s i : ℕ) (o : Option Op) (v : ℤ) (k : List Item) → FitsSigned w32 v → RestHasWords k → Fits k → Ok (write_step c h d s i o v k)
     ok_write d s i None v k fit w r = ok_held (h.words d s i) _ (puts (write_word h d s i v) k (write_fits h d s i v fit small) w r)
-    ok_write d s i (Some o) v k fit w r = ok_present (h.words d s i) _ (λ old e. ok_result o old v _ (small d s i old e) fit (λ x y. puts (write_word h d s i x) k (write_fits h d s i x y small) w r))
+    ok_write d s i (Some o) v k fit w r = ok_held (h.words d s i) _ (ok_present (h.words d s i) _ (λ old e. ok_result o old v _ (small d s i old e) fit (λ x y. puts (write_word h d s i x) k (write_fits h d s i x y small) w r)))
 
     -- ---- calls
 
@@ -325,7 +323,7 @@ module _ (program : Program) (page limit : ℕ) (input : List ℤ) (runs : Runs 
     ok_declare x slot.Scalar (Some e) more k a b none_ room w r =
         idles (evaluate e ∷ assign x ∷ declare more ∷ k) (a, (tt, (b, w))) (enough _ _ (omega arith) room, ((refl, enough _ 0 (omega arith) room), ((none_, enough _ _ (omega arith) room), r)))
     ok_declare x (slot.Array n) first more k a b none_ room w r =
-        ok_if (are_held (h.words (length callers) x) n) _ _ (puts (clear_words h (length callers) x n) (declare more ∷ k) (clear_fits h (length callers) x n small) (b, w) ((none_, enough _ _ (omega arith) room), r)) tt
+        ok_if (may_write_all (h.words (length callers) x) n) _ _ (puts (clear_words h (length callers) x n) (declare more ∷ k) (clear_fits h (length callers) x n small) (b, w) ((none_, enough _ _ (omega arith) room), r)) tt
     ok_declare x slot.Slice first more k a b none_ room w r = tt
 
     ok_fall : (found : Option (Function ℕ)) (k : List Item) → RestHasWords k → Fits k → Ok (fall_off c h found k)
@@ -497,7 +495,7 @@ module _ (program : Program) (page limit : ℕ) (input : List ℤ) (runs : Runs 
 
   module _ (c : Control) (h : Stack) (x : Formed program page limit c h) where
     abbrev others_here : Stack
-    others_here = others h x.whole
+    others_here = others h x.whole x.is_part
 
     -- a state is typed in the context
     abbrev IsTyped : Control → Stack → Type 0
@@ -510,7 +508,7 @@ module _ (program : Program) (page limit : ℕ) (input : List ℤ) (runs : Runs 
     under : (n : ℕ) → length c.calls ≤ n → IsUnder n others_here
     under n l =
         let low : IsUnder (length c.calls) x.whole = subst (λ calls. IsUnder (length calls) x.whole) (context_calls x.context c) x.typed.below in
-        others_under n h x.whole (record { words = λ d s i m. low.words d s i (omega (arith, l, m)); references = λ d s m. low.references d s (omega (arith, l, m)) })
+        others_under n h x.whole x.is_part (record { words = λ d s i m. low.words d s i (omega (arith, l, m)); references = λ d s m. low.references d s (omega (arith, l, m)) })
 
     formed : (t : Control) (g big : Stack) → Fine t g → IsTyped t big → IsPartOf g big → IsSettled t g → Formed program page limit t g
     formed t g big f typed p s = record {
@@ -643,7 +641,7 @@ module _ (program : Program) (page limit : ℕ) (input : List ℤ) (runs : Runs 
     context = alone;
     whole = empty_stack;
     typed = typed_start program limit (sound_typed program runs.sound);
-    is_part = record { words = λ d s i. tt; references = λ d s. tt };
+    is_part = record { words = λ d s i. (absent, refl); references = λ d s. (absent, refl) };
     settled = first_settled program.main limit;
     small = empty_fits;
     words = tt;

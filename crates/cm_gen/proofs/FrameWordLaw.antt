@@ -8,13 +8,14 @@ use Rattle.std.proofs.lemmas.Nat.{mod_below}
 use Rattle.std.specs.Prelude.{true, false, ◌==◌, ◌⊎◌, if◌then◌else◌, max, ℤ, pos, ◌+ℤ◌, slice_get}
 use Rattle.cm_isa.specs.Bits.{minus}
 use Rattle.cm_isa.specs.Alu.{offset}
-use Rattle.cm_isa.specs.Machine.{Mapped, with_word}
+use Rattle.cm_isa.specs.Machine.{Mapped, with_word, writable}
 use Rattle.cm_syntax.specs.declared.stmt.Slot.{Slot}
 use Rattle.cm_syntax.specs.declared.stmt.Slot.TheVariants as slot
 use Rattle.cm_syntax.specs.declared.stmt.Function.{Function}
 use Rattle.cm_syntax.specs.declared.stmt.Program.{Program}
 use Rattle.cm_syntax.specs.Frame.{slots_words, body_temporaries, frame_words, arguments_words}
-use Rattle.cm_syntax.specs.Stack.{present, Stack, Argument, word, slice}
+use Rattle.cm_syntax.specs.Cell.{present, value_in}
+use Rattle.cm_syntax.specs.Stack.{Stack, Argument, word, slice}
 use Rattle.cm_syntax.specs.Rest.{Item, evaluate, right, apply, prefix, both, either, truth, element, read, arguments, pass, take_back, store, end}
 use Rattle.cm_syntax.specs.Step.{top, slots_in, call_bytes_in}
 use Rattle.cm_meaning.specs.TypedState.{slots_at}
@@ -24,7 +25,7 @@ use Rattle.cm_gen.specs.Standing.{Frame, used, arguments_size, slots_here}
 use Rattle.cm_gen.specs.FrameWord.{IsPlace, word_number, temporary_number, IsOwnNumber, words_in, IsMarked, bytes_of, words_at, address_at, pointer_of, word_address, MayStand, AreFrames, taken, cell_at, HasCell, Holds, HasArguments, Kept, HasOwn, row_in, row_of}
 use Rattle.cm_gen.specs.Formed.{HasRoom, RestFits}
 use Rattle.cm_gen.proofs.WordLaw as words
-use Rattle.cm_gen.proofs.MappedWordLaw.{with_word_same, with_word_other, with_word_mapped, some_of}
+use Rattle.cm_gen.proofs.MappedWordLaw.{with_word_same, with_word_other, with_word_mapped, own_of}
 
 -- the last one of the frames, or an earlier one
 pub at_end : (d n : ℕ) {A : Type 0} (x y : A) → d ≡ n → (if d == n then x else y) ≡ x
@@ -419,11 +420,11 @@ module _ (program : Program) (page : ℕ) where
 
   -- a temporary of the running function is mapped
   pub temporary_mapped : (ends : ℕ) (f : ℕ) (calls : List ℕ) (frames : List Frame) (w : Mapped) (j count : ℕ) → 0 < ends → HasRoom program page (f ∷ calls) count → j < count
-      → HasOwn program page ends (f ∷ calls) frames w → (old : ℕ) × (w (word_address frames (length calls) (temporary_number (slots_here program (f ∷ calls)) j)) ≡ Some old)
+      → HasOwn program page ends (f ∷ calls) frames w → (old : ℕ) × (w (word_address frames (length calls) (temporary_number (slots_here program (f ∷ calls)) j)) ≡ writable old)
   temporary_mapped ends f calls frames w j count some room less own =
       let here = temporary_word f calls j count room less in
       let slots = ap slots_words (slots_top f calls) in
-      some_of _ (own (length calls) (temporary_number (slots_here program (f ∷ calls)) j) here.deep (omega (arith, some)) here.low here.high (inr (omega (arith, slots))))
+      own_of _ (own (length calls) (temporary_number (slots_here program (f ∷ calls)) j) here.deep (omega (arith, some)) here.low here.high (inr (omega (arith, slots))))
 
   -- ---- what a rest speaks of
 
@@ -525,7 +526,7 @@ module _ (program : Program) (page : ℕ) where
       let element = kept.0 in (
         record {
           row = element.row;
-          row_is = sym (rows a) ∙ element.row_is;
+          row_is = ap value_in (sym (rows a)) ∙ element.row_is;
           address = same (length calls) _ (temporary_kept f calls 0 1 1 fits.0.1 (omega arith) (omega arith)) ∙ element.address;
         },
         kept_as k (f ∷ calls) frames g h v w fits.1 shape (same_fewer (used k) 1 (f ∷ calls) frames v w (omega (arith, fits.0.0)) same) rows references kept.1,

@@ -1,13 +1,14 @@
 -- The words of a new frame: what its first stores leave, and what those of the parameters do.
 use Rattle.std.proofs.Common.{◌≡◌, ◌≢◌, ℕ, suc, ◌+◌, ◌-◌, ◌*◌, ◌%◌, ◌<◌, ◌≤◌, List, [], ◌∷◌, length, Option, None, Some, refl, sym, ap, ◌∙◌, subst, arith, inl, inr}
 use Rattle.std.proofs.lemmas.Bool.Decides.{eqb_tells}
-use Rattle.std.specs.Prelude.{Bool, true, false, ◌==◌, if◌then◌else◌, ◌⊎◌, IsSome, slice_get}
-use Rattle.cm_isa.specs.Machine.{Mapped, with_word}
+use Rattle.std.specs.Prelude.{Bool, true, false, ◌==◌, if◌then◌else◌, ◌⊎◌, slice_get}
+use Rattle.cm_isa.specs.Machine.{Mapped, with_word, IsWritable, writable}
 use Rattle.cm_isa.specs.Run.{Extends}
 use Rattle.cm_syntax.specs.declared.stmt.Slot.{Slot}
 use Rattle.cm_syntax.specs.declared.stmt.Slot.TheVariants as slot
 use Rattle.cm_syntax.specs.declared.stmt.Program.{Program}
-use Rattle.cm_syntax.specs.Stack.{unset, present, Reference, Stack, push_frame}
+use Rattle.cm_syntax.specs.Cell.{unset, value_in}
+use Rattle.cm_syntax.specs.Stack.{Reference, Stack, push_frame}
 use Rattle.cm_syntax.specs.Rest.{Item, end}
 use Rattle.cm_syntax.specs.Step.{top}
 use Rattle.cm_meaning.specs.TypedState.{slots_at}
@@ -26,7 +27,7 @@ one_choice false x = refl
 module _ (program : Program) (page : ℕ) where
   -- a store into a place, where the other places have what they should
   pub holds_put : (calls : List ℕ) (frames : List Frame) (g : Stack) (w : Mapped) (d s i v : ℕ) → AreFrames program page calls frames → d < length calls → IsPlace (slots_at program calls d) s i
-      → HasCell program page (cell_at program page calls frames g d s i) (Some v)
+      → HasCell program page (cell_at program page calls frames g d s i) (writable v)
       → ((e t j : ℕ) → e < length calls → IsPlace (slots_at program calls e) t j
       → HasCell program page (cell_at program page calls frames g e t j) (w (word_address frames e (word_number (slots_at program calls e) t j))) ⊎ ((e ≡ d) × (t ≡ s) × (j ≡ i)))
       → Holds program page calls frames g (with_word w (word_address frames d (word_number (slots_at program calls d) s i)) v)
@@ -93,7 +94,7 @@ module _ (program : Program) (page : ℕ) (f : ℕ) (calls : List ℕ) (F : Fram
   abbrev pub saved : (w : Mapped) → (low back pointer : ℕ) → Mapped
   saved w low back pointer = with_word (with_word (with_word w (F.address - B) low) (F.address - 4) back) (F.address - 8) pointer
 
-  module _ (w : Mapped) (low back pointer : ℕ) (mapped : (a : ℕ) → a % 4 ≡ 0 → F.address - B ≤ a → a < F.address → IsSome (w a)) where
+  module _ (w : Mapped) (low back pointer : ℕ) (mapped : (a : ℕ) → a % 4 ≡ 0 → F.address - B ≤ a → a < F.address → IsWritable (w a)) where
     abbrev one : Mapped
     one = with_word w (F.address - B) low
 
@@ -111,34 +112,34 @@ module _ (program : Program) (page : ℕ) (f : ℕ) (calls : List ℕ) (F : Fram
         ∙ below_stays w (words_in (slice_get program.functions f)) low (omega (arith, least)) (omega arith) d n deep x
         ∙ ap w (deeper_address program page F calls frames d n same deep)
 
-    pub saved_mapped : (a : ℕ) → IsSome (w a) → IsSome (now a)
+    pub saved_mapped : (a : ℕ) → IsWritable (w a) → IsWritable (now a)
     saved_mapped a some = with_word_mapped two (F.address - 8) pointer a (with_word_mapped one (F.address - 4) back a (with_word_mapped w (F.address - B) low a some))
 
     -- each word of the new frame is mapped
-    pub new_mapped : (n : ℕ) → IsWord program page (f ∷ calls) L n → IsSome (now (word_address (F ∷ frames) L n))
+    pub new_mapped : (n : ℕ) → IsWord program page (f ∷ calls) L n → IsWritable (now (word_address (F ∷ frames) L n))
     new_mapped n x =
         let e = at_end L L (words_in (slice_get program.functions f)) (words_at program page calls L) refl in
         let least = x.low in
         let most : 4 * n ≤ B = omega (arith, x.high, e) in
         let four = shape.1 in
         let fits = shape.2 in
-        subst (λ a. IsSome (now a)) (sym (new_address n)) (saved_mapped (F.address - 4 * n) (mapped (F.address - 4 * n) (omega (arith, four, fits, most)) (omega (arith, most)) (omega (arith, least, fits, most))))
+        subst (λ a. IsWritable (now a)) (sym (new_address n)) (saved_mapped (F.address - 4 * n) (mapped (F.address - 4 * n) (omega (arith, four, fits, most)) (omega (arith, most)) (omega (arith, least, fits, most))))
 
-    pub saved_back : now (F.address - 4) ≡ Some back
+    pub saved_back : now (F.address - 4) ≡ writable back
     saved_back =
         let least = shape.4 in
         let fits = shape.2 in
         with_word_other two (F.address - 8) pointer (F.address - 4) (λ e. omega (arith, e, least, fits)) ∙ with_word_same one (F.address - 4) back
 
-    pub saved_pointer : now (F.address - 8) ≡ Some pointer
+    pub saved_pointer : now (F.address - 8) ≡ writable pointer
     saved_pointer = with_word_same two (F.address - 8) pointer
 
     -- the slots: nothing is set in the new frame, and the words of the frames below are as they were
-    pub saved_holds : (h : Stack) (v : Mapped) → Extends v w → ((d s : ℕ) (r : Reference) → d < L → h.references d s ≡ present r → r.depth < L)
+    pub saved_holds : (h : Stack) (v : Mapped) → Extends v w → ((d s : ℕ) (r : Reference) → d < L → value_in (h.references d s) ≡ Some r → r.depth < L)
         → Holds program page calls frames h v → Holds program page (f ∷ calls) (F ∷ frames) (push_frame h L []) now
     saved_holds h v more live holds = λ d s i deep place. elim (eqb_tells d L) [
       | inl last ↦ subst (λ c. HasCell program page c (now (word_address (F ∷ frames) d (word_number (slots_at program (f ∷ calls) d) s i)))) (sym (new_cell d s i last.1))
-          (subst (λ e. IsSome (now (word_address (F ∷ frames) e (word_number (slots_at program (f ∷ calls) d) s i)))) (sym last.1)
+          (subst (λ e. IsWritable (now (word_address (F ∷ frames) e (word_number (slots_at program (f ∷ calls) d) s i)))) (sym last.1)
           (new_mapped (word_number (slots_at program (f ∷ calls) d) s i) (subst (λ e. IsWord program page (f ∷ calls) e (word_number (slots_at program (f ∷ calls) d) s i)) last.1 (place_word program page (f ∷ calls) d s i deep place))))
       | inr other ↦ below d s i (omega (arith, deep, other.1)) place
     ]
@@ -171,8 +172,8 @@ module _ (program : Program) (page : ℕ) (f : ℕ) (calls : List ℕ) (F : Fram
     pub saved_kept : (k : List Item) (h g : Stack) (v : Mapped) → Extends v w → ((d s : ℕ) → d < L → g.references d s ≡ h.references d s) → RestFits program page k calls
         → back ≡ F.back → pointer ≡ pointer_of frames → Kept program page k calls frames h v → Kept program page (end ∷ k) (f ∷ calls) (F ∷ frames) g now
     saved_kept k h g v more references fits back_is pointer_is kept = (
-      saved_back ∙ ap Some back_is,
-      saved_pointer ∙ ap Some pointer_is,
+      saved_back ∙ ap writable back_is,
+      saved_pointer ∙ ap writable pointer_is,
       kept_lasts program page k calls frames g h now w fits shape.3
           (λ d n x own known. ap now (sym (deeper_address program page F calls frames d n same x.deep)) ∙ saved_stays d n x.deep x)
           (λ a. sym (same_row program page calls g h a (λ s some. references (top calls) s (top_low program page calls some))))
@@ -183,12 +184,12 @@ module _ (program : Program) (page : ℕ) (f : ℕ) (calls : List ℕ) (F : Fram
     -- the saved words and the temporaries
     pub saved_own : (ends : ℕ) (v : Mapped) → Extends v w → HasOwn program page ends calls frames v → HasOwn program page (suc ends) (f ∷ calls) (F ∷ frames) now
     saved_own ends v more own = λ d n deep active low high kind. elim (eqb_tells d L) [
-      | inl last ↦ subst (λ e. IsSome (now (word_address (F ∷ frames) e n))) (sym last.1) (new_mapped n (subst (λ e. IsWord program page (f ∷ calls) e n) last.1 (record { deep = deep; low = low; high = high })))
+      | inl last ↦ subst (λ e. IsWritable (now (word_address (F ∷ frames) e n))) (sym last.1) (new_mapped n (subst (λ e. IsWord program page (f ∷ calls) e n) last.1 (record { deep = deep; low = low; high = high })))
       | inr other ↦ below d n (omega (arith, deep, other.1)) active low high kind
     ]
       where
-        below : (d n : ℕ) → d < L → suc L ≤ d + suc ends → 0 < n → n ≤ words_at program page (f ∷ calls) d → IsOwnNumber (slots_at program (f ∷ calls) d) n → IsSome (now (word_address (F ∷ frames) d n))
+        below : (d n : ℕ) → d < L → suc L ≤ d + suc ends → 0 < n → n ≤ words_at program page (f ∷ calls) d → IsOwnNumber (slots_at program (f ∷ calls) d) n → IsWritable (now (word_address (F ∷ frames) d n))
         below d n deep active low high kind =
             let x = shallow_word program page f calls d n deep (record { deep = omega (arith, deep); low = low; high = high }) in
-            subst (λ (o : Option ℕ). IsSome o) (sym (saved_stays d n deep x))
+            subst IsWritable (sym (saved_stays d n deep x))
             (extends_cell program page unset v w (word_address frames d n) more (own d n deep (omega (arith, active)) low x.high (subst (λ l. IsOwnNumber l n) (slots_before program page f calls d deep) kind)))

@@ -1,16 +1,16 @@
 -- What the code before a function's body does.
 use Rattle.cm_isa.specs.Bits.{minus}
 use Rattle.cm_isa.specs.declared.convention.TheConstants as reg
-use Rattle.std.proofs.Common.{◌≡◌, ◌≢◌, ℕ, ◌+◌, ◌-◌, ◌*◌, ◌%◌, ◌^◌, ◌<◌, ◌≤◌, [], ◌∷◌, length, Option, Some, refl, sym, ap, ◌∙◌, subst, arith, inl, inr}
+use Rattle.std.proofs.Common.{◌≡◌, ◌≢◌, ℕ, ◌+◌, ◌-◌, ◌*◌, ◌%◌, ◌^◌, ◌<◌, ◌≤◌, [], ◌∷◌, length, Some, refl, sym, ap, ◌∙◌, subst, arith, inl, inr}
 use Rattle.std.proofs.lemmas.Bool.{ne_eqb, le-ltb}
 use Rattle.std.proofs.lemmas.Int.{ints}
 use Rattle.std.proofs.lemmas.Bool.Decides.{eqb_tells}
-use Rattle.std.specs.Prelude.{true, false, ◌==◌, nat_lt, ℤ, pos, ◌+ℤ◌, ◌-ℤ◌, FitsSigned, IsSome}
+use Rattle.std.specs.Prelude.{true, false, ◌==◌, nat_lt, ℤ, pos, ◌+ℤ◌, ◌-ℤ◌, FitsSigned}
 use Rattle.std.specs.Int.{w32, cast_unsigned}
 use Rattle.cm_isa.specs.Operation.{Operation}
 use Rattle.cm_isa.specs.Alu.{int, word, offset}
 use Rattle.cm_isa.specs.Action.{follow}
-use Rattle.cm_isa.specs.Machine.{Machine, Code, InstructionsAt, machine_after, machine_with, with_word}
+use Rattle.cm_isa.specs.Machine.{Machine, Code, InstructionsAt, machine_after, machine_with, with_word, writable, IsWritable, Stored, Mapped}
 use Rattle.cm_isa.specs.Run.{ComesTo}
 use Rattle.cm_isa.specs.Register.{with_register}
 use Rattle.cm_isa.proofs.Machine.{same_machine}
@@ -19,7 +19,7 @@ use Rattle.cm_gen.specs.Code.{load_number, tick}
 use Rattle.cm_gen.proofs.WordLaw as words
 use Rattle.cm_gen.proofs.Step.{comes_by_one, comes_on, follow_is, store_word}
 use Rattle.cm_gen.proofs.PatternLaw.{Sets, load_number_runs}
-use Rattle.cm_gen.proofs.MappedWordLaw.{some_of, with_word_mapped}
+use Rattle.cm_gen.proofs.MappedWordLaw.{own_of, with_word_mapped}
 
 -- ---- registers in two forms
 
@@ -68,7 +68,7 @@ module _ (code : Code) where
 
   -- one instruction that stores a register's word, at an address that is known
   put_at : (source base p a old : ℕ) (o : ℤ) (m : Machine) → m.counter ≡ p → p + 4 < 2 ^ 32 → code p (sw source base o)
-      → offset (m.registers base) o ≡ a → a % 4 ≡ 0 → m.words a ≡ Some old
+      → offset (m.registers base) o ≡ a → a % 4 ≡ 0 → m.words a ≡ writable old
       → ComesTo code 1 m (record { registers = m.registers; counter = p + 4; words = with_word m.words a (m.registers source) })
   put_at source base p a old o m here room code_is address aligned there =
       let next : ℕ → Machine = λ c. record { registers = m.registers; counter = c; words = with_word m.words a (m.registers source) } in
@@ -125,24 +125,24 @@ module _ (code : Code) where
           (subst (λ c. ComesTo code 1 o (machine_with m (with_register (with_register m.registers reg.HELP q) reg.ACCOUNT (m.registers reg.ACCOUNT - q)) c)) sum third))
 
 -- the addresses that a call's frame and saved words have
-pub record IsFrameBelow (b sp : ℕ) (w : ℕ → Option ℕ) : Type 0 where
+pub record IsFrameBelow (b sp : ℕ) (w : ℕ → Stored) : Type 0 where
   pub aligned : sp % 4 ≡ 0
   pub whole : b % 4 ≡ 0
   pub least : 8 ≤ b
   pub most : b ≤ sp
   pub word : sp < 2 ^ 32
   pub small : b < 2 ^ 31
-  pub mapped : (a : ℕ) → a % 4 ≡ 0 → sp - b ≤ a → a < sp → IsSome (w a)
+  pub mapped : (a : ℕ) → a % 4 ≡ 0 → sp - b ≤ a → a < sp → IsWritable (w a)
 
 -- the registers and the words that the frame's code leaves
 abbrev pub framed_registers : (b : ℕ) → (ℕ → ℕ) → ℕ → ℕ
 framed_registers b r = with_register (with_register (with_register (with_register r reg.HELP b) reg.SP (r reg.SP - b)) reg.HELP (r reg.SP)) reg.FP (r reg.SP)
 
-abbrev pub framed_words : (b : ℕ) → (ℕ → ℕ) → (ℕ → Option ℕ) → ℕ → Option ℕ
+abbrev pub framed_words : (b : ℕ) → (ℕ → ℕ) → Mapped → Mapped
 framed_words b r w = with_word (with_word (with_word w (r reg.SP - b) (r reg.ZERO)) (r reg.SP - 4) (r reg.RA)) (r reg.SP - 8) (r reg.FP)
 
 module _ (code : Code) where
-  pub frame_by : (b p : ℕ) (r : ℕ → ℕ) (w : ℕ → Option ℕ) (m : Machine) (size : ℕ) → r reg.ZERO ≡ 0 → IsFrameBelow b (r reg.SP) w → p + 24 < 2 ^ 32
+  pub frame_by : (b p : ℕ) (r : ℕ → ℕ) (w : ℕ → Stored) (m : Machine) (size : ℕ) → r reg.ZERO ≡ 0 → IsFrameBelow b (r reg.SP) w → p + 24 < 2 ^ 32
       → InstructionsAt code p (sub reg.SP reg.SP reg.HELP ∷ sw reg.ZERO reg.SP (pos 0) ∷ add reg.HELP reg.SP reg.HELP ∷ sw reg.RA reg.HELP (minus 4) ∷ sw reg.FP reg.HELP (minus 8) ∷ addi reg.FP reg.HELP (pos 0) ∷ [])
       → ComesTo code size m (record { registers = with_register r reg.HELP b; counter = p; words = w })
       → ComesTo code (size + 6) m (record { registers = framed_registers b r; counter = p + 24; words = framed_words b r w })
@@ -172,9 +172,9 @@ module _ (code : Code) where
       let low_4 : low % 4 ≡ 0 = omega (arith, frame.aligned, frame.whole, frame.most) in
       let four_4 : (sp - 4) % 4 ≡ 0 = omega (arith, frame.aligned, frame.least, frame.most) in
       let eight_4 : (sp - 8) % 4 ≡ 0 = omega (arith, frame.aligned, frame.least, frame.most) in
-      let there_low = some_of (w low) (frame.mapped low low_4 (omega arith) (omega (arith, frame.least, frame.most))) in
-      let there_4 = some_of (w1 (sp - 4)) (with_word_mapped w low (r reg.ZERO) (sp - 4) (frame.mapped (sp - 4) four_4 (omega (arith, frame.least, frame.most)) (omega (arith, frame.least, frame.most)))) in
-      let there_8 = some_of (w2 (sp - 8)) (with_word_mapped w1 (sp - 4) (r reg.RA) (sp - 8) (with_word_mapped w low (r reg.ZERO) (sp - 8) (frame.mapped (sp - 8) eight_4 (omega (arith, frame.least, frame.most)) (omega (arith, frame.least, frame.most))))) in
+      let there_low = own_of (w low) (frame.mapped low low_4 (omega arith) (omega (arith, frame.least, frame.most))) in
+      let there_4 = own_of (w1 (sp - 4)) (with_word_mapped w low (r reg.ZERO) (sp - 4) (frame.mapped (sp - 4) four_4 (omega (arith, frame.least, frame.most)) (omega (arith, frame.least, frame.most)))) in
+      let there_8 = own_of (w2 (sp - 8)) (with_word_mapped w1 (sp - 4) (r reg.RA) (sp - 8) (with_word_mapped w low (r reg.ZERO) (sp - 8) (frame.mapped (sp - 8) eight_4 (omega (arith, frame.least, frame.most)) (omega (arith, frame.least, frame.most))))) in
       let s1 : ComesTo code 1 m0 m1 = set_at code (sub reg.SP reg.SP reg.HELP) reg.SP low p m0 refl (omega arith) code_is.0 (ap (λ v. Some (machine_with m0 (with_register r0 reg.SP v) (follow p))) below) in
       let s2 : ComesTo code 1 m1 m2 = put_at code reg.ZERO reg.SP (p + 4) low there_low.0 (pos 0) m1 refl (omega arith) code_is.1.0 at_low low_4 there_low.1 in
       let s3 : ComesTo code 1 m2 m3 = set_at code (add reg.HELP reg.SP reg.HELP) reg.HELP sp (p + 4 + 4) m2 refl (omega arith) code_is.1.1.0 (ap (λ v. Some (machine_with m2 (with_register r1 reg.HELP v) (follow (p + 4 + 4)))) above) in

@@ -2,7 +2,7 @@
 use Rattle.std.proofs.Common.{◌≡◌, ℕ, zero, suc, ◌+◌, ◌-◌, ◌*◌, ◌%◌, ◌^◌, ◌<◌, ◌≤◌, List, [], ◌∷◌, ◌++◌, length, Option, None, Some, refl, sym, ap, ◌∙◌, subst, arith, inl, inr}
 use Rattle.std.proofs.lemmas.Int.{ints}
 use Rattle.std.proofs.lemmas.Option.{none-some, same_Some}
-use Rattle.std.specs.Prelude.{Bool, true, false, if◌then◌else◌, ⊤, ℤ, pos, ◌+ℤ◌, IsSome, slice_get}
+use Rattle.std.specs.Prelude.{Bool, true, false, if◌then◌else◌, ⊤, ℤ, pos, ◌+ℤ◌, slice_get}
 use Rattle.std.specs.Int.{w32, cast_unsigned}
 use Rattle.cm_isa.specs.declared.convention.TheConstants as reg
 use Rattle.cm_isa.specs.Bits.{minus}
@@ -10,17 +10,19 @@ use Rattle.cm_isa.specs.Operation.{Operation}
 use Rattle.cm_isa.specs.Alu as alu
 use Rattle.cm_isa.specs.Alu.{int, offset}
 use Rattle.cm_isa.specs.Action.{follow}
-use Rattle.cm_isa.specs.Machine.{Machine, Mapped, Code, InstructionsAt, machine_with}
+use Rattle.cm_isa.specs.Machine.{Machine, Mapped, Code, InstructionsAt, machine_with, writable, IsWritable, Stored}
 use Rattle.cm_isa.specs.Run.{ComesTo}
 use Rattle.cm_isa.specs.Register.{with_register}
 use Rattle.cm_syntax.specs.declared.stmt.Function.{Function}
 use Rattle.cm_syntax.specs.declared.stmt.Program.{Program}
 use Rattle.cm_syntax.specs.Label.{silent, syncs}
-use Rattle.cm_syntax.specs.Stack.{absent, present, Stack, Reference, pop_frame}
+use Rattle.cm_syntax.specs.Cell.{absent, value_in}
+use Rattle.cm_syntax.specs.Stack.{Stack, Reference, pop_frame}
 use Rattle.cm_syntax.specs.Rest.{Item, apply, arguments, pass, perform, sequence, body, store, branch, turn, test, part, exit, fall, join, end, Hand, idle, holds, returned, entering, framing, Control, control}
 use Rattle.cm_syntax.specs.Step.{Move, top, rest_at_join, hand_value, leave, fall_off, running_function, end_call, hand_step, call_bytes_in}
 use Rattle.cm_meaning.specs.TypedState.{slots_at}
 use Rattle.cm_meaning.specs.Activation.{end_count}
+use Rattle.cm_gen.proofs.MappedWordLaw.{own_reads}
 use Rattle.cm_gen.specs.declared.form.Form.{Form}
 use Rattle.cm_gen.specs.declared.form.Form.TheVariants.{Serial, Cilk}
 use Rattle.cm_gen.specs.Assembler.{lui, addi, add, lw, jal, jalr}
@@ -56,8 +58,8 @@ abbrev ending : List Operation
 ending = add reg.ACCOUNT reg.ACCOUNT reg.HELP ∷ addi reg.RESULT reg.VALUE (pos 0) ∷ lw reg.RA reg.FP (minus 4) ∷ addi reg.SP reg.FP (pos 0) ∷ lw reg.FP reg.FP (minus 8) ∷ jalr reg.ZERO reg.RA (pos 0) ∷ []
 
 module _ (code : Code) where
-  pub ends_by : (q p back pointer : ℕ) (r : ℕ → ℕ) (w : ℕ → Option ℕ) (m : Machine) (size : ℕ) → r reg.FP % 4 ≡ 0 → 8 ≤ r reg.FP → r reg.FP < 2 ^ 32 → r reg.ACCOUNT + q < 2 ^ 32
-      → w (r reg.FP - 4) ≡ Some back → w (r reg.FP - 8) ≡ Some pointer → back % 4 ≡ 0 → back < 2 ^ 32 → p + 24 < 2 ^ 32
+  pub ends_by : (q p back pointer : ℕ) (r : ℕ → ℕ) (w : ℕ → Stored) (m : Machine) (size : ℕ) → r reg.FP % 4 ≡ 0 → 8 ≤ r reg.FP → r reg.FP < 2 ^ 32 → r reg.ACCOUNT + q < 2 ^ 32
+      → w (r reg.FP - 4) ≡ writable back → w (r reg.FP - 8) ≡ writable pointer → back % 4 ≡ 0 → back < 2 ^ 32 → p + 24 < 2 ^ 32
       → InstructionsAt code p ending
       → ComesTo code size m (record { registers = with_register r reg.HELP q; counter = p; words = w })
       → ComesTo code (size + 6) m (record { registers = ended_registers q (alu.word (int (r reg.VALUE) +ℤ int (cast_unsigned w32 (pos 0)))) back pointer r; counter = back; words = w })
@@ -87,9 +89,9 @@ module _ (code : Code) where
       let even : back - back % 2 ≡ back = omega arith in
       let s1 : ComesTo code 1 m0 m1 = set_at code (add reg.ACCOUNT reg.ACCOUNT reg.HELP) reg.ACCOUNT (r reg.ACCOUNT + q) p m0 refl (omega arith) code_is.0 (ap (λ v. Some (machine_with m0 (with_register r0 reg.ACCOUNT v) (follow p))) paid) in
       let s2 : ComesTo code 1 m1 m2 = set_at code (addi reg.RESULT reg.VALUE (pos 0)) reg.RESULT result (p + 4) m1 refl (omega arith) code_is.1.0 refl in
-      let s3 : ComesTo code 1 m2 m3 = set_at code (lw reg.RA reg.FP (minus 4)) reg.RA back (p + 4 + 4) m2 refl (omega arith) code_is.1.1.0 (rw at_4 (load_word reg.RA (f - 4) back m2 four_4 there_4)) in
+      let s3 : ComesTo code 1 m2 m3 = set_at code (lw reg.RA reg.FP (minus 4)) reg.RA back (p + 4 + 4) m2 refl (omega arith) code_is.1.1.0 (rw at_4 (load_word reg.RA (f - 4) back m2 four_4 (own_reads _ back there_4))) in
       let s4 : ComesTo code 1 m3 m4 = set_at code (addi reg.SP reg.FP (pos 0)) reg.SP f (p + 4 + 4 + 4) m3 refl (omega arith) code_is.1.1.1.0 (ap (λ v. Some (machine_with m3 (with_register r3 reg.SP v) (follow (p + 4 + 4 + 4)))) copied) in
-      let s5 : ComesTo code 1 m4 m5 = set_at code (lw reg.FP reg.FP (minus 8)) reg.FP pointer (p + 4 + 4 + 4 + 4) m4 refl (omega arith) code_is.1.1.1.1.0 (rw at_8 (load_word reg.FP (f - 8) pointer m4 eight_4 there_8)) in
+      let s5 : ComesTo code 1 m4 m5 = set_at code (lw reg.FP reg.FP (minus 8)) reg.FP pointer (p + 4 + 4 + 4 + 4) m4 refl (omega arith) code_is.1.1.1.1.0 (rw at_8 (load_word reg.FP (f - 8) pointer m4 eight_4 (own_reads _ pointer there_8))) in
       let s6 : ComesTo code 1 m5 m6 = comes_by_one code (jalr reg.ZERO reg.RA (pos 0)) m5 m6 code_is.1.1.1.1.1.0 (rw (at_back, even, back_4) refl) in
       let six : ComesTo code 6 m0 m6 = comes_on code 1 5 m0 m1 m6 s1 (comes_on code 1 4 m1 m2 m6 s2 (comes_on code 1 3 m2 m3 m6 s3 (comes_on code 1 2 m3 m4 m6 s4 (comes_on code 1 1 m4 m5 m6 s5 s6)))) in
       comes_on code size 6 m m0 m6 number_runs six
@@ -306,17 +308,17 @@ module _ (program : Program) (form : Form) (page limit : ℕ) (input : List ℤ)
   -- the saved words and the temporaries of the frames below
   below_own : (count f : ℕ) (calls : List ℕ) (F : Frame) (frames : List Frame) (w : Mapped) → length calls ≡ length frames → HasOwn program page (suc count) (f ∷ calls) (F ∷ frames) w → HasOwn program page count calls frames w
   below_own count f calls F frames w same own = λ d n deep active low high kind.
-      subst (λ a. IsSome (w a)) (deeper_address program page F calls frames d n same deep)
+      subst (λ a. IsWritable (w a)) (deeper_address program page F calls frames d n same deep)
       (own d n (omega (arith, deep)) (omega (arith, active)) low (subst (λ o. n ≤ o) (sym (words_before program page f calls d deep)) high) (subst (λ l. IsOwnNumber l n) (sym (slots_before program page f calls d deep)) kind))
 
   -- the slots of the frames below
-  below_holds : (f : ℕ) (calls : List ℕ) (F : Frame) (frames : List Frame) (h : Stack) (w : Mapped) → length calls ≡ length frames → ((d s : ℕ) (r : Reference) → d < length calls → h.references d s ≡ present r → r.depth < length calls)
+  below_holds : (f : ℕ) (calls : List ℕ) (F : Frame) (frames : List Frame) (h : Stack) (w : Mapped) → length calls ≡ length frames → ((d s : ℕ) (r : Reference) → d < length calls → value_in (h.references d s) ≡ Some r → r.depth < length calls)
       → Holds program page (f ∷ calls) (F ∷ frames) h w → Holds program page calls frames (pop_frame h (length calls)) w
   below_holds f calls F frames h w same live slots_are = λ d s i deep place.
       let slots = slots_before program page f calls d deep in
       let n = word_number (slots_at program calls d) s i in
       let references = at_before d (length calls) absent (h.references d s) deep in
-      let cell = deeper_cell program page f F calls frames h (pop_frame h (length calls)) d s i same deep (sym (at_before d (length calls) absent (h.words d s i) deep)) (sym references) (λ r e. live d s r deep (sym references ∙ e)) in
+      let cell = deeper_cell program page f F calls frames h (pop_frame h (length calls)) d s i same deep (sym (at_before d (length calls) absent (h.words d s i) deep)) (sym references) (λ r e. live d s r deep (ap value_in (sym references) ∙ e)) in
       subst (λ c. HasCell program page c (w (word_address frames d n))) cell
       (subst (λ a. HasCell program page (cell_at program page (f ∷ calls) (F ∷ frames) h d s i) (w a)) (deeper_address program page F calls frames d n same deep)
       (subst (λ l. HasCell program page (cell_at program page (f ∷ calls) (F ∷ frames) h d s i) (w (word_address (F ∷ frames) d (word_number l s i)))) slots

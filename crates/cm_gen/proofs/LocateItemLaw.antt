@@ -6,7 +6,7 @@ use Rattle.cm_isa.specs.declared.convention.TheConstants as reg
 use Rattle.cm_isa.specs.Alu.{offset}
 use Rattle.cm_isa.specs.Operation.{Operation}
 use Rattle.cm_isa.specs.Action.{follow}
-use Rattle.cm_isa.specs.Machine.{Machine, Code, machine_after, with_word}
+use Rattle.cm_isa.specs.Machine.{Machine, Code, machine_after, with_word, writable, reads}
 use Rattle.cm_isa.specs.Run.{ComesTo}
 use Rattle.cm_syntax.specs.declared.expr.Op.{Op}
 use Rattle.cm_syntax.specs.declared.expr.Expr.{Expr}
@@ -17,7 +17,8 @@ use Rattle.cm_syntax.specs.Frame.{temporaries}
 use Rattle.cm_syntax.specs.Operator.{natural, binary_value}
 use Rattle.cm_syntax.specs.Label.{traps}
 use Rattle.cm_syntax.specs.Trap as kind
-use Rattle.cm_syntax.specs.Stack.{absent, present, Reference, Stack, write_word}
+use Rattle.cm_syntax.specs.Cell.{absent, present, value_in, unset, shared, may_write, Cell}
+use Rattle.cm_syntax.specs.Stack.{Reference, Stack, write_word}
 use Rattle.cm_syntax.specs.Rest.{Item, evaluate, locate, store, Hand, idle, holds, control}
 use Rattle.cm_syntax.specs.Step.{Move, top, slots_in, is_index, slice_in, slot_at, go_on, write_step, item_step}
 use Rattle.cm_syntax.proofs.FrameLaw.{temporaries_at_least}
@@ -35,12 +36,12 @@ use Rattle.cm_gen.specs.Standing.{LeadsTo, StandsThen, slots_here, Coded}
 use Rattle.cm_gen.specs.StandsFor.{Spot, Placed, ExactAt, LeadsFrom}
 use Rattle.cm_gen.proofs.WordLaw as words
 use Rattle.cm_gen.proofs.Step.{comes_by_one, comes_on, follow_is, load_word, store_word}
-use Rattle.cm_gen.proofs.MappedWordLaw.{with_word_same}
+use Rattle.cm_gen.proofs.MappedWordLaw.{with_word_same, own_reads}
 use Rattle.cm_gen.proofs.PatternLaw.{Sets, sets_by_one, load_slot_runs}
 use Rattle.cm_gen.proofs.StandingLaw.{parted, then_second, straight_length, straight_end}
 use Rattle.cm_gen.proofs.StateLaw.{SameRegisters, same_sets, same_after, leads_to, leads_on, leads_stuck, by_held, by_present, by_result}
 use Rattle.cm_gen.proofs.FrameWordLaw.{kept_temporary, temporary_at_offset}
-use Rattle.cm_gen.proofs.FactLaw.{IsNoCall, opened, some_end, row_within}
+use Rattle.cm_gen.proofs.FactLaw.{IsNoCall, opened, some_end, row_within, part_has}
 use Rattle.cm_gen.proofs.BaseLaw.{IsCodeAt, code_at, code_front, code_back, IsRow, is_row, same_present, at_base, locate_runs, locate_traps}
 use Rattle.cm_gen.proofs.OperatorLaw.{operator_runs, operator_traps}
 use Rattle.cm_gen.proofs.LoopItemLaw.{with_value}
@@ -48,16 +49,22 @@ use Rattle.cm_gen.proofs.WriteLaw.{store_some, held_word, held_value, wrote, put
 
 -- the number of words of a row is that of its slot, in a stack of which this one is a part
 row_count : (program : Program) (page : ℕ) (kind : Option Slot) (calls : List ℕ) (h whole : Stack) (a : ℕ) (r : Reference) → IsPart (h.references (top calls) a) (whole.references (top calls) a)
-    → row_in program page kind calls h a ≡ present r → row_length whole (top calls) a kind ≡ r.length
+    → value_in (row_in program page kind calls h a) ≡ Some r → row_length whole (top calls) a kind ≡ r.length
 row_count program page None calls h whole a r part e = cc
 row_count program page (Some slot.Scalar) calls h whole a r part e = ap (λ x. x.length) (same_present e)
 row_count program page (Some (slot.Array n)) calls h whole a r part e = ap (λ x. x.length) (same_present e)
 row_count program page (Some slot.Slice) calls h whole a r part e =
-    ap (λ c. reference_length c) (subst (λ c. IsPart c (whole.references (top calls) a)) e part)
+    length_is (whole.references (top calls) a) r (part_has (h.references (top calls) a) (whole.references (top calls) a) r part e)
+  where
+    length_is : (c : Cell Reference) (r : Reference) → value_in c ≡ Some r → reference_length c ≡ r.length
+    length_is absent r e = cc e
+    length_is unset r e = cc e
+    length_is (present q) r e = ap (λ x. x.length) (same_present e)
+    length_is (shared p q) r e = ap (λ x. x.length) (same_present e)
 
 module _ (code : Code) where
   -- a register goes to the address in another one
-  pub put_runs : (source base a old : ℕ) (m : Machine) → code m.counter (sw source base (pos 0)) → m.counter + 4 < 2 ^ 32 → m.registers base ≡ a → a % 4 ≡ 0 → a < 2 ^ 32 → m.words a ≡ Some old
+  pub put_runs : (source base a old : ℕ) (m : Machine) → code m.counter (sw source base (pos 0)) → m.counter + 4 < 2 ^ 32 → m.registers base ≡ a → a % 4 ≡ 0 → a < 2 ^ 32 → m.words a ≡ writable old
       → ComesTo code 1 m (record { registers = m.registers; counter = m.counter + 4; words = with_word m.words a (m.registers source) })
   put_runs source base a old m there room base_is aligned fits mapped =
       let next : ℕ → Machine = λ c. record { registers = m.registers; counter = c; words = with_word m.words a (m.registers source) } in
@@ -67,7 +74,7 @@ module _ (code : Code) where
 
   -- a register takes the word at the address in another one
   pub take_runs : (target base a v : ℕ) (m : Machine) → (target == reg.ZERO) ≡ false → code m.counter (lw target base (pos 0)) → m.counter + 4 < 2 ^ 32 → m.registers base ≡ a → a % 4 ≡ 0 → a < 2 ^ 32
-      → m.words a ≡ Some v → (t : Machine) × ComesTo code 1 m t × Sets target v 4 m t
+      → reads (m.words a) ≡ Some v → (t : Machine) × ComesTo code 1 m t × Sets target v 4 m t
   take_runs target base a v m nonzero there room base_is aligned fits mapped =
       let address : offset (m.registers base) (pos 0) ≡ a = ap (λ b. offset b (pos 0)) base_is ∙ words.offset_up a 0 (omega (arith, fits)) ∙ omega arith in
       sets_by_one code (lw target base (pos 0)) target v m nonzero room there (rw address (load_word target a v m aligned mapped))
@@ -75,12 +82,12 @@ module _ (code : Code) where
 module _ (program : Program) (form : Form) (page limit : ℕ) (input : List ℤ) (code : Code) where
   -- a law of an item that takes the words of a row
   pub by_row : {spot : Spot} {left : ℕ} {h : Stack} {m : Machine} (calls : List ℕ) (a : ℕ) (goes : Reference → Move)
-      → ((r : Reference) → row_of program page calls h a ≡ present r → LeadsFrom program form page input code spot left calls h (goes r) m)
+      → ((r : Reference) → value_in (row_of program page calls h a) ≡ Some r → LeadsFrom program form page input code spot left calls h (goes r) m)
       → LeadsFrom program form page input code spot left calls h (slice_in calls h (slot_at program page input calls a) a goes) m
   by_row [] a goes law = leads_stuck program form page input code
   by_row {spot = spot} {left = left} {h = h} {m = m} (f ∷ calls) a goes law = by_kind (slice_get (slots_here program (f ∷ calls)) a) law
     where
-      by_kind : (o : Option Slot) → ((r : Reference) → row_in program page o (f ∷ calls) h a ≡ present r → LeadsFrom program form page input code spot left (f ∷ calls) h (goes r) m)
+      by_kind : (o : Option Slot) → ((r : Reference) → value_in (row_in program page o (f ∷ calls) h a) ≡ Some r → LeadsFrom program form page input code spot left (f ∷ calls) h (goes r) m)
           → LeadsFrom program form page input code spot left (f ∷ calls) h (slice_in (f ∷ calls) h o a goes) m
       by_kind None law = leads_stuck program form page input code
       by_kind (Some slot.Scalar) law = law _ refl
@@ -99,7 +106,7 @@ module _ (program : Program) (form : Form) (page limit : ℕ) (input : List ℤ)
     abbrev slots : List Slot
     slots = slots_here program (f ∷ calls)
 
-    locate_by : (a : ℕ) (o : Option Op) (e : Expr ℕ) (r : Reference) (index : Bool) → is_index v r.length ≡ index → row_of program page (f ∷ calls) h a ≡ present r → IsRow program page (f ∷ calls) spot.frames r
+    locate_by : (a : ℕ) (o : Option Op) (e : Expr ℕ) (r : Reference) (index : Bool) → is_index v r.length ≡ index → value_in (row_of program page (f ∷ calls) h a) ≡ Some r → IsRow program page (f ∷ calls) spot.frames r
         → RestFits program page (locate a o e ∷ k) (f ∷ calls) → 0 < end_count k → exact (locate a o e ∷ k) → place (locate a o e ∷ k)
         → LeadsFrom program form page input code spot left (f ∷ calls) h
         (if index then go_on (control (f ∷ calls) account (holds v) (locate a o e ∷ k)) h (evaluate e ∷ store a (natural v) o ∷ k) else traps kind.Index) m
@@ -164,7 +171,7 @@ module _ (program : Program) (form : Form) (page limit : ℕ) (input : List ℤ)
   -- ---- the value of the element
 
   module _ (spot : Spot) (left f : ℕ) (calls : List ℕ) (account : ℕ) (v : ℤ) (k : List Item) (h : Stack) (m : Machine) (a i : ℕ) (o : Option Op) (r : Reference)
-      (row : row_of program page (f ∷ calls) h a ≡ present r) (is : IsRow program page (f ∷ calls) spot.frames r) (within : r.start + r.length ≤ row_words (slice_get (slots_at program (f ∷ calls) r.depth) r.slot)) (less : i < r.length)
+      (row : value_in (row_of program page (f ∷ calls) h a) ≡ Some r) (is : IsRow program page (f ∷ calls) spot.frames r) (within : r.start + r.length ≤ row_words (slice_get (slots_at program (f ∷ calls) r.depth) r.slot)) (less : i < r.length)
       (fits : RestFits program page (store a i o ∷ k) (f ∷ calls))
       (x : ExactAt program form page input code spot left (control (f ∷ calls) account (holds v) (store a i o ∷ k)) h m)
       (here : Placed program form page input code (holds v) (store a i o ∷ k) (f ∷ calls) spot.frames m.registers m.counter) where
@@ -193,11 +200,11 @@ module _ (program : Program) (form : Form) (page limit : ℕ) (input : List ℤ)
         let same : x.kept.0.row ≡ r = same_present (sym x.kept.0.row_is ∙ row) in
         load_slot_runs code q (temporary_offset own_slots 0) (word_address spot.frames (length calls) (temporary_number own_slots 0)) target m nonzero other
         (subst (λ p. p < 2 ^ 32) (sym x.pointer_is) at.fits) (ap (λ p. offset p (temporary_offset own_slots 0)) x.pointer_is ∙ at.address) at.aligned
-        (subst (λ s. m.words (word_address spot.frames (length calls) (temporary_number own_slots 0)) ≡ Some (reference_address program page (f ∷ calls) spot.frames s + 4 * i)) same x.kept.0.address)
+        (own_reads _ _ (subst (λ s. m.words (word_address spot.frames (length calls) (temporary_number own_slots 0)) ≡ writable (reference_address program page (f ∷ calls) spot.frames s + 4 * i)) same x.kept.0.address))
         (omega (arith, below)) there.there
 
     -- the store, behind instructions that changed no word
-    stores : (base : ℕ) (w : ℤ) (n : Machine) → (h.words r.depth r.slot (r.start + i) ≡ absent → ⊥) → SameRegisters m.registers n.registers → n.words ≡ m.words → n.registers base ≡ target → n.registers reg.VALUE ≡ bits w
+    stores : (base : ℕ) (w : ℤ) (n : Machine) → may_write (h.words r.depth r.slot (r.start + i)) ≡ true → SameRegisters m.registers n.registers → n.words ≡ m.words → n.registers base ≡ target → n.registers reg.VALUE ≡ bits w
         → IsCodeAt code n.counter (sw reg.VALUE base (pos 0) ∷ []) → LeadsTo code next (n.counter + 4)
         → (t : Machine) × ComesTo code 1 n t × ExactAt program form page input code spot left (control (f ∷ calls) account idle k) (write_word h r.depth r.slot (r.start + i) w) t
     stores base w n some same words at value there behind =
@@ -213,7 +220,7 @@ module _ (program : Program) (form : Form) (page limit : ℕ) (input : List ℤ)
         )
 
   module _ (spot : Spot) (left f : ℕ) (calls : List ℕ) (account : ℕ) (v : ℤ) (k : List Item) (h : Stack) (m : Machine) (a i : ℕ) (r : Reference)
-      (row : row_of program page (f ∷ calls) h a ≡ present r) (is : IsRow program page (f ∷ calls) spot.frames r) (within : r.start + r.length ≤ row_words (slice_get (slots_at program (f ∷ calls) r.depth) r.slot)) (less : i < r.length) where
+      (row : value_in (row_of program page (f ∷ calls) h a) ≡ Some r) (is : IsRow program page (f ∷ calls) spot.frames r) (within : r.start + r.length ≤ row_words (slice_get (slots_at program (f ∷ calls) r.depth) r.slot)) (less : i < r.length) where
     store_plain : RestFits program page (store a i None ∷ k) (f ∷ calls) → ExactAt program form page input code spot left (control (f ∷ calls) account (holds v) (store a i None ∷ k)) h m
         → Placed program form page input code (holds v) (store a i None ∷ k) (f ∷ calls) spot.frames m.registers m.counter
         → LeadsFrom program form page input code spot left (f ∷ calls) h (write_step (control (f ∷ calls) account (holds v) (store a i None ∷ k)) h r.depth r.slot (r.start + i) None v k) m
@@ -234,11 +241,11 @@ module _ (program : Program) (form : Form) (page limit : ℕ) (input : List ℤ)
         leads_on program form page input code (length loads + 1) last.0 (comes_on code (length loads) 1 m n last.0 first.1 last.1) last.2)
 
     -- with an operator the old word comes first
-    store_with : (o : Op) → ((d t i : ℕ) (w : ℤ) → h.words d t i ≡ present w → FitsSigned w32 w)
+    store_with : (o : Op) → ((d t i : ℕ) (w : ℤ) → value_in (h.words d t i) ≡ Some w → FitsSigned w32 w)
         → RestFits program page (store a i (Some o) ∷ k) (f ∷ calls) → ExactAt program form page input code spot left (control (f ∷ calls) account (holds v) (store a i (Some o) ∷ k)) h m
         → Placed program form page input code (holds v) (store a i (Some o) ∷ k) (f ∷ calls) spot.frames m.registers m.counter
         → LeadsFrom program form page input code spot left (f ∷ calls) h (write_step (control (f ∷ calls) account (holds v) (store a i (Some o) ∷ k)) h r.depth r.slot (r.start + i) (Some o) v k) m
-    store_with o small fits x here = by_present program form page input code (h.words r.depth r.slot (r.start + i)) _ (λ old held.
+    store_with o small fits x here = by_held program form page input code (h.words r.depth r.slot (r.start + i)) _ (λ some. by_present program form page input code (h.words r.depth r.slot (r.start + i)) _ (λ old held.
         let slots = slots_here program (f ∷ calls) in
         let goal = target spot left f calls account v k h m a i (Some o) r row is within less fits x here in
         let loads = load_slot reg.HELP (temporary_offset slots 0) in
@@ -257,7 +264,7 @@ module _ (program : Program) (form : Form) (page limit : ℕ) (input : List ℤ)
         let word_is = held_value program page (f ∷ calls) spot.frames h m.words r.depth r.slot (r.start + i) old x.slots is.live inside held in
         let second = take_runs code reg.LEFT reg.HELP goal (bits old) n refl second_code.there.0 (omega (arith, below)) does.value
         (element_aligned spot left f calls account v k h m a i (Some o) r row is within less fits x here) (element_fits spot left f calls account v k h m a i (Some o) r row is within less fits x here)
-        (ap (λ w. w goal) does.words ∙ ap m.words (is.address i less) ∙ word_is) in
+        (ap (λ w. reads (w goal)) does.words ∙ ap (λ a. reads (m.words a)) (is.address i less) ∙ word_is) in
         let n2 = second.0 in
         let does2 = second.2 in
         let third_code = code_back code takes (operator_code o ++ puts) does2.counter second_code in
@@ -274,7 +281,7 @@ module _ (program : Program) (form : Form) (page limit : ℕ) (input : List ℤ)
         let c2 = does2.counter in
         let c3 = does3.counter in
         let end : m.counter + 4 * length (loads ++ (takes ++ (operator_code o ++ puts))) ≡ n3.counter + 4 = omega (arith, size, sized, c1, c2, c3) in
-        let last = stores spot left f calls account v k h m a i (Some o) r row is within less fits x here reg.HELP w n3 (λ gone. not_present (sym gone ∙ held))
+        let last = stores spot left f calls account v k h m a i (Some o) r row is within less fits x here reg.HELP w n3 some
         (same_after same2 (same_sets refl refl refl refl refl does3)) (does3.words ∙ does2.words ∙ does.words) (does3.kept reg.HELP refl ∙ does2.kept reg.HELP refl ∙ does.value) does3.value
         (code_back code (operator_code o) puts does3.counter third_code)
         (subst (LeadsTo code behind) end (straight_end code (loads ++ (takes ++ (operator_code o ++ puts))) behind m.counter here.2)) in
@@ -282,12 +289,9 @@ module _ (program : Program) (form : Form) (page limit : ℕ) (input : List ℤ)
         (comes_on code (length loads + 1) (third.0 + 1) m n2 last.0 to_n2 (comes_on code third.0 1 n2 n3 last.0 third.2 last.1)) last.2)
         (λ result divides_is.
         let third = operator_traps code n2 zero_is old v (small r.depth r.slot (r.start + i) old held) here.1 does2.value value o result divides_is (code_front code (operator_code o) puts third_code) in
-        leads_to program form page input code (length loads + 1 + third.0) third.1 (comes_on code (length loads + 1) third.0 m n2 third.1 to_n2 third.2) (record { there = third.3; number_is = third.4 }, third.5 ∙ same2.ticks ∙ x.left_is)))
-      where
-        not_present : {z : ℤ} → absent ≡ present z → ⊥
-        not_present e = cc
+        leads_to program form page input code (length loads + 1 + third.0) third.1 (comes_on code (length loads + 1) third.0 m n2 third.1 to_n2 third.2) (record { there = third.3; number_is = third.4 }, third.5 ∙ same2.ticks ∙ x.left_is))))
 
-    store_by : (o : Option Op) → ((d t i : ℕ) (w : ℤ) → h.words d t i ≡ present w → FitsSigned w32 w)
+    store_by : (o : Option Op) → ((d t i : ℕ) (w : ℤ) → value_in (h.words d t i) ≡ Some w → FitsSigned w32 w)
         → RestFits program page (store a i o ∷ k) (f ∷ calls) → ExactAt program form page input code spot left (control (f ∷ calls) account (holds v) (store a i o ∷ k)) h m
         → Placed program form page input code (holds v) (store a i o ∷ k) (f ∷ calls) spot.frames m.registers m.counter
         → LeadsFrom program form page input code spot left (f ∷ calls) h (write_step (control (f ∷ calls) account (holds v) (store a i o ∷ k)) h r.depth r.slot (r.start + i) o v k) m

@@ -4,7 +4,7 @@ use Rattle.std.proofs.Common.{◌≡◌, ℕ, zero, suc, ◌^◌, ◌<◌, List,
 use Rattle.std.specs.Prelude.{ℤ}
 use Rattle.cm_isa.specs.declared.convention.TheConstants as reg
 use Rattle.cm_isa.specs.Operation.{ecall}
-use Rattle.cm_isa.specs.Machine.{Machine, Code, StepsTo, machine_after}
+use Rattle.cm_isa.specs.Machine.{Machine, Code, StepsTo, machine_after, reads}
 use Rattle.cm_isa.specs.Run.{ComesTo}
 use Rattle.cm_syntax.specs.declared.stmt.Program.{Program}
 use Rattle.cm_syntax.specs.Trap as kind
@@ -67,7 +67,7 @@ module _ (program : Program) (form : Form) (page limit : ℕ) (input : List ℤ)
     arrived left c h m next old (silent d g) is less formed fewer lighter maps steps (hears n (inl reply) x) = absurd (no_service 2 m next reply.0 steps)
     arrived left c h m next old (silent d g) is less formed fewer lighter maps steps (hears n (inr reply) x) = absurd (no_service 3 m next reply.0 steps)
     arrived left c h m next old (silent d g) is less formed fewer lighter maps steps (opens f calls calls_are frames may x) =
-        by_count (x.goes_on m.words (λ a v e. e) (maps old left f d g x))
+        by_count (x.goes_on m.words (record { keeps_writable = λ a v e. e; keeps_readable = λ a v e. ap (λ s. reads s) e }) (maps old left f d g x))
       where
         by_count : Reaches program form page input code old left d g m → goes left c h next
         by_count r = by r.count r.comes_to

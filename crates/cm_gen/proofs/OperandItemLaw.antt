@@ -7,7 +7,7 @@ use Rattle.std.specs.Prelude.{Bool, true, false, ◌==◌, if◌then◌else◌, 
 use Rattle.std.specs.Int.{w32}
 use Rattle.cm_isa.specs.Alu.{bit}
 use Rattle.cm_isa.specs.Action.{follow}
-use Rattle.cm_isa.specs.Machine.{Machine, Code, machine_after, machine_with}
+use Rattle.cm_isa.specs.Machine.{Machine, Code, machine_after, machine_with, writable}
 use Rattle.cm_isa.specs.Run.{ComesTo}
 use Rattle.cm_isa.specs.Register.{with_register}
 use Rattle.cm_isa.specs.declared.convention.TheConstants as reg
@@ -212,7 +212,7 @@ module _ (program : Program) (form : Form) (page limit : ℕ) (input : List ℤ)
       } in
       leads_on program form page input code _ t ran.1
       (exact_with program form page input code x idle (evaluate r ∷ apply o a ∷ k) h t same does.at.slots
-      (does.there ∙ ap Some here.0, here.1, keeps_rest program page code f calls spot.frames k (end_count k) h d count _ _ m t x.frames fits.1 (omega arith) fits.0 less does x.kept)
+      (does.there ∙ ap writable here.0, here.1, keeps_rest program page code f calls spot.frames k (end_count k) h d count _ _ m t x.frames fits.1 (omega arith) fits.0 less does x.kept)
       does.at.own
       (leads_map code (StandsThen code later rest) (Coded program form page code (evaluate r ∷ apply o a ∷ k) (f ∷ calls) spot.frames) t.counter
       (subst (LeadsTo code (StandsThen code later rest)) (sym place) (straight_end code (keep_word slots d) (StandsThen code later rest) m.counter parts))

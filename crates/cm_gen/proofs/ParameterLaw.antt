@@ -3,18 +3,19 @@ use Rattle.std.proofs.Common.{◌≡◌, ℕ, zero, suc, ◌+◌, ◌*◌, ◌^�
 use Rattle.std.proofs.lemmas.Bool.{ne_eqb}
 use Rattle.std.proofs.lemmas.Bool.Decides.{eqb_tells}
 use Rattle.std.proofs.lemmas.Option.{none-some, same_Some}
-use Rattle.std.specs.Prelude.{false, ◌==◌, if◌then◌else◌, ◌⊎◌, ℤ, pos, ◌+ℤ◌, IsSome, slice_get, take, map}
+use Rattle.std.specs.Prelude.{false, ◌==◌, if◌then◌else◌, ◌⊎◌, ℤ, pos, ◌+ℤ◌, slice_get, take, map}
 use Rattle.cm_isa.specs.declared.convention.TheConstants as reg
 use Rattle.cm_isa.specs.Operation.{Operation}
 use Rattle.cm_isa.specs.Alu.{offset}
-use Rattle.cm_isa.specs.Machine.{Machine, Mapped, Code, InstructionsAt, with_word}
+use Rattle.cm_isa.specs.Machine.{Machine, Mapped, Code, InstructionsAt, with_word, writable, IsWritable}
 use Rattle.cm_isa.specs.Run.{ComesTo}
 use Rattle.cm_syntax.specs.declared.stmt.Slot.{Slot}
 use Rattle.cm_syntax.specs.declared.stmt.Slot.TheVariants as slot
 use Rattle.cm_syntax.specs.declared.stmt.Item as items
 use Rattle.cm_syntax.specs.declared.stmt.Program.{Program}
 use Rattle.cm_syntax.specs.Frame.{slot_words, slots_words}
-use Rattle.cm_syntax.specs.Stack.{Cell, unset, present, Reference, Stack, Argument, word, slice, word_parameter, slice_parameter, push_frame}
+use Rattle.cm_syntax.specs.Cell.{Cell, unset, present}
+use Rattle.cm_syntax.specs.Stack.{Reference, Stack, Argument, word, slice, word_parameter, slice_parameter, push_frame}
 use Rattle.cm_syntax.specs.Rest.{Item}
 use Rattle.cm_meaning.specs.TypedState.{slots_at, FitsParameter, FitParameters}
 use Rattle.cm_gen.specs.Code.{store_slot}
@@ -24,7 +25,7 @@ use Rattle.cm_gen.specs.Standing.{Frame, arguments_size, slots_here}
 use Rattle.cm_gen.specs.FrameWord.{bits, words_in_slot, IsPlace, word_number, word_address, AreFrames, cell_in, cell_at, slice_cell, value_cell, HasCell, Holds, Kept, HasOwn, reference_address}
 use Rattle.cm_gen.specs.Formed.{RestFits}
 use Rattle.cm_gen.specs.StandsFor.{Handed}
-use Rattle.cm_gen.proofs.MappedWordLaw.{some_of, is_some_at, with_word_same}
+use Rattle.cm_gen.proofs.MappedWordLaw.{own_of, with_word_same}
 use Rattle.cm_gen.proofs.Step.{comes_on, instructions_front, instructions_back}
 use Rattle.cm_gen.proofs.PatternLaw.{Puts, store_slot_runs}
 use Rattle.cm_gen.proofs.FrameWordLaw.{at_end, lengths, slots_top, IsOffset, slot_at_offset, place_at_offset, own_put, kept_place}
@@ -117,7 +118,7 @@ module _ (program : Program) (page : ℕ) (f : ℕ) (calls : List ℕ) (F : Fram
 
   -- a store into a slot of the new frame keeps the rest of it
   framed_put : (ws vs : List Argument) (w : Mapped) (s i v : ℕ) → IsPlace S s i → IsFramed ws w
-      → HasCell program page (cell vs L s i) (Some v)
+      → HasCell program page (cell vs L s i) (writable v)
       → ((e t j : ℕ) → e < suc L → IsPlace (slots_at program (f ∷ calls) e) t j
       → HasCell program page (cell vs e t j) (w (word_address (F ∷ frames) e (word_number (slots_at program (f ∷ calls) e) t j))) ⊎ ((e ≡ L) × (t ≡ s) × (j ≡ i)))
       → IsFramed vs (with_word w (place s i) v)
@@ -166,7 +167,7 @@ module _ (program : Program) (page : ℕ) (f : ℕ) (calls : List ℕ) (F : Fram
   pub framed_word : (z : ℤ) (ws : List Argument) (w : Mapped) → slice_get S (length ws) ≡ Some slot.Scalar → IsFramed ws w → IsFramed (word z ∷ ws) (with_word w (place (length ws) 0) (bits z))
   framed_word z ws w kind x =
       framed_put ws (word z ∷ ws) w (length ws) 0 (bits z) (subst (λ o. 0 < words_in_slot o) (sym kind) (omega arith)) x
-      (subst (λ c. HasCell program page c (Some (bits z))) (sym there) refl)
+      (subst (λ c. HasCell program page c (writable (bits z))) (sym there) refl)
       (λ e t j low is_place. elim (eqb_tells e L) [
         | inr a ↦ same e t j low is_place (λ p q r. a.1 p)
         | inl a ↦ elim (eqb_tells t (length ws)) [
@@ -207,16 +208,16 @@ module _ (program : Program) (page : ℕ) (f : ℕ) (calls : List ℕ) (F : Fram
   pub framed_address : (v : ℕ) (ws : List Argument) (w : Mapped) → slice_get S (length ws) ≡ Some slot.Slice → IsFramed ws w → IsFramed ws (with_word w (place (length ws) 0) v)
   framed_address v ws w kind x =
       framed_put ws ws w (length ws) 0 v (subst (λ o. 0 < words_in_slot o) (sym kind) (omega arith)) x
-      (subst (λ c. HasCell program page c (Some v)) (sym (unset_cell ws (slice_get (slots_at program (f ∷ calls) L) (length ws)) 0 refl)) (is_some_at (Some v) v refl))
+      (subst (λ c. HasCell program page c (writable v)) (sym (unset_cell ws (slice_get (slots_at program (f ∷ calls) L) (length ws)) 0 refl)) tt)
       (λ e t j low is_place. inl (x.slots e t j low is_place))
 
   -- and then its length
   pub framed_slice : (r : Reference) (ws : List Argument) (w : Mapped) → slice_get S (length ws) ≡ Some slot.Slice → IsFramed ws w
-      → w (place (length ws) 0) ≡ Some (reference_address program page (f ∷ calls) (F ∷ frames) r)
+      → w (place (length ws) 0) ≡ writable (reference_address program page (f ∷ calls) (F ∷ frames) r)
       → IsFramed (slice r ∷ ws) (with_word w (place (length ws) 1) r.length)
   framed_slice r ws w kind x address =
       framed_put ws (slice r ∷ ws) w (length ws) 1 r.length (subst (λ o. 1 < words_in_slot o) (sym kind) (omega arith)) x
-      (subst (λ c. HasCell program page c (Some r.length)) (sym (there 1)) refl)
+      (subst (λ c. HasCell program page c (writable r.length)) (sym (there 1)) refl)
       (λ e t j low is_place. elim (eqb_tells e L) [
         | inr a ↦ same e t j low is_place (λ p q. a.1 p)
         | inl a ↦ elim (eqb_tells t (length ws)) [
@@ -250,9 +251,9 @@ module _ (program : Program) (page : ℕ) (f : ℕ) (calls : List ℕ) (F : Fram
           let two : suc (suc j) < 2 = subst (λ o. suc (suc j) < words_in_slot o) (kind_at (length ws) slot.Slice kind) here in
           absurd (omega (arith, two))
 
-  unset_mapped : (ws : List Argument) (w : Mapped) (i : ℕ) → IsPlace S (length ws) i → IsFramed ws w → IsSome (w (place (length ws) i))
+  unset_mapped : (ws : List Argument) (w : Mapped) (i : ℕ) → IsPlace S (length ws) i → IsFramed ws w → IsWritable (w (place (length ws) i))
   unset_mapped ws w i there x =
-      subst (λ l. IsSome (w (word_address (F ∷ frames) L (word_number l (length ws) i)))) (slots_top program page f calls)
+      subst (λ l. IsWritable (w (word_address (F ∷ frames) L (word_number l (length ws) i)))) (slots_top program page f calls)
       (subst (λ c. HasCell program page c (w (word_address (F ∷ frames) L (word_number (slots_at program (f ∷ calls) L) (length ws) i)))) (unset_cell ws (slice_get (slots_at program (f ∷ calls) L) (length ws)) i refl)
       (x.slots L (length ws) i (omega arith) (subst (λ l. IsPlace l (length ws) i) (sym (slots_top program page f calls)) there)))
 
@@ -262,7 +263,7 @@ module _ (program : Program) (page : ℕ) (f : ℕ) (calls : List ℕ) (F : Fram
         → IsOffset program page F.address o (place (length ws) i) → IsFramed ws m.words → m.counter < 2 ^ 30 → InstructionsAt code m.counter (store_slot r o)
         → (t : Machine) × ComesTo code (length (store_slot r o)) m t × Puts (place (length ws) i) (m.registers r) (4 * length (store_slot r o)) m t
     store_one ws r i o m high pointer there at x below code_is =
-        let old = some_of (m.words (place (length ws) i)) (unset_mapped ws m.words i there x) in
+        let old = own_of (m.words (place (length ws) i)) (unset_mapped ws m.words i there x) in
         store_slot_runs code r o (place (length ws) i) old.0 m (ne_eqb r reg.HELP (λ e. omega (arith, e, high))) (subst (λ p. p < 2 ^ 32) (sym pointer) at.fits) (subst (λ p. offset p o ≡ place (length ws) i) (sym pointer) at.address) at.aligned old.1 (omega (arith, below)) code_is
 
     -- these instructions have stored the parameters of these arguments
@@ -327,7 +328,7 @@ module _ (program : Program) (page : ℕ) (f : ℕ) (calls : List ℕ) (F : Fram
         let address : m.registers n ≡ reference_address program page (f ∷ calls) (F ∷ frames) r = value ∙ sym (deeper_reference program page f F calls frames r (lengths program page calls frames shape.3) live) in
         let words : t.words ≡ with_word m.words (place (length ws) 0) (reference_address program page (f ∷ calls) (F ∷ frames) r) = does.words ∙ ap (with_word m.words (place (length ws) 0)) address in
         let framed = subst (λ w. IsFramed ws w) (sym words) (framed_address (reference_address program page (f ∷ calls) (F ∷ frames) r) ws m.words kind x) in
-        let has : t.words (place (length ws) 0) ≡ Some (reference_address program page (f ∷ calls) (F ∷ frames) r) = ap (λ w. w (place (length ws) 0)) words ∙ with_word_same m.words (place (length ws) 0) _ in
+        let has : t.words (place (length ws) 0) ≡ writable (reference_address program page (f ∷ calls) (F ∷ frames) r) = ap (λ w. w (place (length ws) 0)) words ∙ with_word_same m.words (place (length ws) 0) _ in
         let again = store_one ws (n + 1) 1 (o +ℤ pos 4) t (omega arith) (does.kept reg.FP refl ∙ pointer) first (place_at_offset program page f calls (F ∷ frames) (length ws) 1 shape first) framed (omega (arith, does.counter, below, size))
         (subst (λ p. InstructionsAt code p b) (sym does.counter) (instructions_back code m.counter a b code_is)) in
         let u = again.0 in

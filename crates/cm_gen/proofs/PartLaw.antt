@@ -1,8 +1,10 @@
 -- Stacks that are a part of another one, and stacks whose words are words of the machine.
 use Rattle.std.proofs.Common.{◌≡◌, ℕ, List, [], ◌∷◌, length, refl, subst, arith}
-use Rattle.std.specs.Prelude.{Bool, true, false, ◌==◌, ◌&&◌, nat_lt, if◌then◌else◌, ℤ, pos, FitsSigned}
+use Rattle.std.specs.Prelude.{Bool, true, false, ◌==◌, ◌&&◌, nat_lt, if◌then◌else◌, ℤ, pos, FitsSigned, Some}
 use Rattle.std.specs.Int.{w32}
-use Rattle.cm_syntax.specs.Stack.{Cell, absent, unset, present, Stack, Destination, Argument, word, slice, write_word, clear_words, word_parameter, push_frame, pop_frame, lends, lent_stack, kept_stack, CellSum, StackSum, IsUnder}
+use Rattle.cm_syntax.proofs.CellLaw.{cell_nothing, cell_assoc, cell_comm, loan_sum, sum_absent}
+use Rattle.cm_syntax.specs.Cell.{Cell, absent, unset, present, value_in, lent_cell, kept_cell}
+use Rattle.cm_syntax.specs.Stack.{Stack, Destination, Argument, word, slice, write_word, clear_words, word_parameter, push_frame, pop_frame, lent_stack, kept_stack, StackSum, IsUnder, loan_of}
 use Rattle.cm_gen.specs.Formed.{IsPart, IsPartOf, AreWords}
 use Rattle.cm_gen.proofs.FactLaw.{absent_free, unset_free, same_present, part_has}
 use Rattle.cm_gen.proofs.ValueFitsLaw.{natural_fits}
@@ -10,22 +12,10 @@ use Rattle.cm_gen.proofs.ValueFitsLaw.{natural_fits}
 -- ---- parts
 
 part_same : {A : Type 0} (a : Cell A) → IsPart a a
-part_same absent = tt
-part_same unset = refl
-part_same (present v) = refl
+part_same a = (absent, cell_nothing a)
 
 part_on : {A : Type 0} (a b c : Cell A) → IsPart a b → IsPart b c → IsPart a c
-part_on absent b c p q = tt
-part_on unset b c p q = subst (λ z. IsPart z c) p q
-part_on (present v) b c p q = subst (λ z. IsPart z c) p q
-
-part_if : {A : Type 0} (q : Bool) (a : Cell A) → IsPart (if q then a else absent) a
-part_if true a = part_same a
-part_if false a = tt
-
-part_else : {A : Type 0} (q : Bool) (a : Cell A) → IsPart (if q then absent else a) a
-part_else true a = tt
-part_else false a = part_same a
+part_on a b c p q = let r = cell_assoc a p.0 q.0 b c p.1 q.1 in (r.0, r.2)
 
 -- a part of a part
 pub part_of_part : (a b c : Stack) → IsPartOf a b → IsPartOf b c → IsPartOf a c
@@ -35,13 +25,16 @@ part_of_part a b c p q = record {
 }
 
 pub lent_part : (h : Stack) (x : Destination) (ws : List Argument) → IsPartOf (lent_stack h x ws) h
-lent_part h x ws = record { words = λ d s i. part_if (lends x ws d s i) (h.words d s i); references = λ d s. tt }
+lent_part h x ws = record { words = λ d s i. (kept_cell (loan_of x ws d s i) (h.words d s i), loan_sum (loan_of x ws d s i) (h.words d s i)); references = λ d s. (h.references d s, refl) }
 
 pub kept_part : (h : Stack) (x : Destination) (ws : List Argument) → IsPartOf (kept_stack h x ws) h
-kept_part h x ws = record { words = λ d s i. part_else (lends x ws d s i) (h.words d s i); references = λ d s. part_same (h.references d s) }
+kept_part h x ws = record {
+  words = λ d s i. (lent_cell (loan_of x ws d s i) (h.words d s i), cell_comm (lent_cell (loan_of x ws d s i) (h.words d s i)) (kept_cell (loan_of x ws d s i) (h.words d s i)) (h.words d s i) (loan_sum (loan_of x ws d s i) (h.words d s i)));
+  references = λ d s. part_same (h.references d s);
+}
 
 popped : {A : Type 0} (q : Bool) (a b : Cell A) → IsPart a b → IsPart (if q then absent else a) (if q then absent else b)
-popped true a b p = tt
+popped true a b p = (absent, refl)
 popped false a b p = p
 
 -- a frame that ends, ends in both
@@ -50,51 +43,31 @@ popped_part a b n p = record { words = λ d s i. popped (d == n) (a.words d s i)
 
 -- ---- parts and sums
 
-sum_part : {A : Type 0} (a b c : Cell A) → CellSum a b c → IsPart a c
-sum_part absent b c s = tt
-sum_part unset absent c s = s
-sum_part unset unset c s = absurd s
-sum_part unset (present w) c s = absurd s
-sum_part (present v) absent c s = s
-sum_part (present v) unset c s = absurd s
-sum_part (present v) (present w) c s = absurd s
-
 pub part_of_sum : (a b c : Stack) → StackSum a b c → IsPartOf a c
-part_of_sum a b c s = record { words = λ d i j. sum_part (a.words d i j) (b.words d i j) (c.words d i j) (s.words d i j); references = λ d i. sum_part (a.references d i) (b.references d i) (c.references d i) (s.references d i) }
+part_of_sum a b c s = record { words = λ d i j. (b.words d i j, s.words d i j); references = λ d i. (b.references d i, s.references d i) }
 
 -- what a whole has beside a part
-abbrev beside_cell : {A : Type 0} → Cell A → Cell A → Cell A
-beside_cell absent w = w
-beside_cell _ w = absent
+abbrev pub others : (part whole : Stack) → IsPartOf part whole → Stack
+others h whole p = record { words = λ d s i. (p.words d s i).0; references = λ d s. (p.references d s).0 }
 
-abbrev pub others : (part whole : Stack) → Stack
-others h whole = record { words = λ d s i. beside_cell (h.words d s i) (whole.words d s i); references = λ d s. beside_cell (h.references d s) (whole.references d s) }
+pub others_sum : (h whole : Stack) (p : IsPartOf h whole) → StackSum h (others h whole p) whole
+others_sum h whole p = record { words = λ d s i. (p.words d s i).1; references = λ d s. (p.references d s).1 }
 
-cell_sum : {A : Type 0} (a w : Cell A) → IsPart a w → CellSum a (beside_cell a w) w
-cell_sum absent w p = refl
-cell_sum unset w p = p
-cell_sum (present v) w p = p
+beside_absent : {A : Type 0} (a w : Cell A) (p : IsPart a w) → w ≡ absent → p.0 ≡ absent
+beside_absent a w p e = sum_absent p.0 a w (cell_comm a p.0 w p.1) e
 
-pub others_sum : (h whole : Stack) → IsPartOf h whole → StackSum h (others h whole) whole
-others_sum h whole p = record { words = λ d s i. cell_sum (h.words d s i) (whole.words d s i) (p.words d s i); references = λ d s. cell_sum (h.references d s) (whole.references d s) (p.references d s) }
-
-beside_absent : {A : Type 0} (a w : Cell A) → w ≡ absent → beside_cell a w ≡ absent
-beside_absent absent w e = e
-beside_absent unset w e = refl
-beside_absent (present v) w e = refl
-
-pub others_under : (n : ℕ) (h whole : Stack) → IsUnder n whole → IsUnder n (others h whole)
-others_under n h whole u = record { words = λ d s i l. beside_absent (h.words d s i) (whole.words d s i) (u.words d s i l); references = λ d s l. beside_absent (h.references d s) (whole.references d s) (u.references d s l) }
+pub others_under : (n : ℕ) (h whole : Stack) (p : IsPartOf h whole) → IsUnder n whole → IsUnder n (others h whole p)
+others_under n h whole p u = record { words = λ d s i l. beside_absent (h.words d s i) (whole.words d s i) (p.words d s i) (u.words d s i l); references = λ d s l. beside_absent (h.references d s) (whole.references d s) (p.references d s) (u.references d s l) }
 
 -- ---- words
 
 -- a value that a cell has is a word
 abbrev CellFits : Cell ℤ → Type 0
-CellFits c = (v : ℤ) → c ≡ present v → FitsSigned w32 v
+CellFits c = (v : ℤ) → value_in c ≡ Some v → FitsSigned w32 v
 
 -- and so all of a stack
 abbrev pub StackFits : Stack → Type 0
-StackFits h = (d s i : ℕ) (v : ℤ) → h.words d s i ≡ present v → FitsSigned w32 v
+StackFits h = (d s i : ℕ) (v : ℤ) → value_in (h.words d s i) ≡ Some v → FitsSigned w32 v
 
 absent_fits : CellFits absent
 absent_fits v e = absurd (absent_free v e)

@@ -6,7 +6,7 @@ use Rattle.std.specs.Int.{w32, cast_unsigned}
 use Rattle.cm_isa.specs.Operation.{Operation}
 use Rattle.cm_isa.specs.Alu.{int, word, offset}
 use Rattle.cm_isa.specs.Action.{follow}
-use Rattle.cm_isa.specs.Machine.{Machine, Code, InstructionsAt, machine_after, machine_with, with_word}
+use Rattle.cm_isa.specs.Machine.{Machine, Code, InstructionsAt, machine_after, machine_with, with_word, writable, reads}
 use Rattle.cm_isa.specs.Run.{ComesTo}
 use Rattle.cm_isa.specs.Register.{with_register}
 use Rattle.cm_gen.specs.Assembler.{lui, addi, add, lw, sw}
@@ -106,7 +106,7 @@ module _ (code : Code) where
 
   -- the word of a register at an offset from the frame pointer
   store_slot_by : (near : Bool) (r : ℕ) (o : ℤ) (a old : ℕ) (m : Machine) → (r == reg.HELP) ≡ false → m.registers reg.FP < 2 ^ 32
-      → offset (m.registers reg.FP) o ≡ a → a % 4 ≡ 0 → m.words a ≡ Some old → m.counter + 12 < 2 ^ 32
+      → offset (m.registers reg.FP) o ≡ a → a % 4 ≡ 0 → m.words a ≡ writable old → m.counter + 12 < 2 ^ 32
       → InstructionsAt code m.counter (if near then sw r reg.FP o ∷ [] else lui reg.HELP (high_part o) ∷ add reg.HELP reg.HELP reg.FP ∷ sw r reg.HELP (low_part o) ∷ [])
       → let size = length (if near then sw r reg.FP o ∷ [] else lui reg.HELP (high_part o) ∷ add reg.HELP reg.HELP reg.FP ∷ sw r reg.HELP (low_part o) ∷ []) in
       (t : Machine) × ComesTo code size m t × Puts a (m.registers r) (4 * size) m t
@@ -132,7 +132,7 @@ module _ (code : Code) where
       let t : Machine = record { registers = s.registers; counter = follow s.counter; words = with_word s.words a v } in
       let at : offset (s.registers reg.HELP) (low_part o) ≡ a = two.3 ∙ address in
       let same : s.registers r ≡ v = does.kept r other in
-      let here : s.words a ≡ Some old = ap (λ w. w a) does.words ∙ there in
+      let here : s.words a ≡ writable old = ap (λ w. w a) does.words ∙ there in
       let effect : machine_after (sw r reg.HELP (low_part o)) s ≡ Some t = rw (at, same) (store_word 0 a v old s aligned here) in
       let code_is' = subst (λ p. code p (sw r reg.HELP (low_part o))) (sym does.counter) (second_next (sw r reg.HELP (low_part o)) m.counter code_is.1.1.0) in (
         t,
@@ -145,14 +145,14 @@ module _ (code : Code) where
       )
 
   pub store_slot_runs : (r : ℕ) (o : ℤ) (a old : ℕ) (m : Machine) → (r == reg.HELP) ≡ false → m.registers reg.FP < 2 ^ 32
-      → offset (m.registers reg.FP) o ≡ a → a % 4 ≡ 0 → m.words a ≡ Some old → m.counter + 12 < 2 ^ 32
+      → offset (m.registers reg.FP) o ≡ a → a % 4 ≡ 0 → m.words a ≡ writable old → m.counter + 12 < 2 ^ 32
       → InstructionsAt code m.counter (store_slot r o)
       → (t : Machine) × ComesTo code (length (store_slot r o)) m t × Puts a (m.registers r) (4 * length (store_slot r o)) m t
   store_slot_runs r o a old m other frame address aligned there room code_is = store_slot_by (is_near o) r o a old m other frame address aligned there room code_is
 
   -- an offset from the frame pointer, in a register
   load_slot_by : (near : Bool) (r : ℕ) (o : ℤ) (a v : ℕ) (m : Machine) → (r == reg.ZERO) ≡ false → (reg.FP == r) ≡ false → m.registers reg.FP < 2 ^ 32
-      → offset (m.registers reg.FP) o ≡ a → a % 4 ≡ 0 → m.words a ≡ Some v → m.counter + 12 < 2 ^ 32
+      → offset (m.registers reg.FP) o ≡ a → a % 4 ≡ 0 → reads (m.words a) ≡ Some v → m.counter + 12 < 2 ^ 32
       → InstructionsAt code m.counter (if near then lw r reg.FP o ∷ [] else lui r (high_part o) ∷ add r r reg.FP ∷ lw r r (low_part o) ∷ [])
       → let size = length (if near then lw r reg.FP o ∷ [] else lui r (high_part o) ∷ add r r reg.FP ∷ lw r r (low_part o) ∷ []) in
       (t : Machine) × ComesTo code size m t × Sets r v (4 * size) m t
@@ -163,7 +163,7 @@ module _ (code : Code) where
       let s = two.0 in
       let does = two.2 in
       let at : offset (s.registers r) (low_part o) ≡ a = two.3 ∙ address in
-      let here : s.words a ≡ Some v = ap (λ w. w a) does.words ∙ there in
+      let here : reads (s.words a) ≡ Some v = ap (λ w. reads (w a)) does.words ∙ there in
       let code_is' = subst (λ p. code p (lw r r (low_part o))) (sym does.counter) (second_next (lw r r (low_part o)) m.counter code_is.1.1.0) in
       let room' : s.counter + 4 < 2 ^ 32 = omega (arith, does.counter) in
       let last = sets_by_one (lw r r (low_part o)) r v s nonzero room' code_is' (rw at (load_word r a v s aligned here)) in (
@@ -178,7 +178,7 @@ module _ (code : Code) where
       )
 
   pub load_slot_runs : (r : ℕ) (o : ℤ) (a v : ℕ) (m : Machine) → (r == reg.ZERO) ≡ false → (reg.FP == r) ≡ false → m.registers reg.FP < 2 ^ 32
-      → offset (m.registers reg.FP) o ≡ a → a % 4 ≡ 0 → m.words a ≡ Some v → m.counter + 12 < 2 ^ 32
+      → offset (m.registers reg.FP) o ≡ a → a % 4 ≡ 0 → reads (m.words a) ≡ Some v → m.counter + 12 < 2 ^ 32
       → InstructionsAt code m.counter (load_slot r o)
       → (t : Machine) × ComesTo code (length (load_slot r o)) m t × Sets r v (4 * length (load_slot r o)) m t
   load_slot_runs r o a v m nonzero other frame address aligned there room code_is = load_slot_by (is_near o) r o a v m nonzero other frame address aligned there room code_is

@@ -3,14 +3,14 @@ use Rattle.std.proofs.Common.{◌≡◌, ℕ, zero, suc, ◌+◌, ◌-◌, ◌*�
 use Rattle.std.proofs.lemmas.Bool.{ne_eqb, leb-true, leb-false}
 use Rattle.std.proofs.lemmas.Option.{none-some, same_Some}
 use Rattle.std.proofs.lemmas.List.{take_all, length-map}
-use Rattle.std.specs.Prelude.{Bool, true, false, ◌==◌, nat_le, if◌then◌else◌, ◌⊎◌, ⊤, ℤ, pos, ◌-ℤ◌, IsSome, slice_get, take, map}
+use Rattle.std.specs.Prelude.{Bool, true, false, ◌==◌, nat_le, if◌then◌else◌, ◌⊎◌, ⊤, ℤ, pos, ◌-ℤ◌, slice_get, take, map}
 use Rattle.cm_isa.specs.declared.convention.TheConstants as reg
 use Rattle.cm_isa.specs.Bits.{minus}
 use Rattle.cm_isa.specs.Operation.{Operation}
 use Rattle.cm_isa.specs.Alu as alu
 use Rattle.cm_isa.specs.Alu.{int}
 use Rattle.cm_isa.specs.Action.{follow}
-use Rattle.cm_isa.specs.Machine.{Machine, Mapped, Code, InstructionsAt, machine_after, machine_with}
+use Rattle.cm_isa.specs.Machine.{Machine, Mapped, Code, InstructionsAt, machine_after, machine_with, IsWritable}
 use Rattle.cm_isa.specs.Run.{ComesTo, Extends}
 use Rattle.cm_isa.specs.Register.{with_register}
 use Rattle.cm_syntax.specs.declared.stmt.Slot.{Slot}
@@ -21,7 +21,8 @@ use Rattle.cm_syntax.specs.Fault.{parameter_slots}
 use Rattle.cm_syntax.specs.Frame.{frame_words}
 use Rattle.cm_syntax.specs.Label.{silent, traps}
 use Rattle.cm_syntax.specs.Trap as kind
-use Rattle.cm_syntax.specs.Stack.{present, Stack, Reference, Argument, slice_parameter, push_frame}
+use Rattle.cm_syntax.specs.Cell.{value_in}
+use Rattle.cm_syntax.specs.Stack.{Stack, Reference, Argument, slice_parameter, push_frame}
 use Rattle.cm_syntax.specs.Rest.{Item, body, fall, join, end, idle, framing, control}
 use Rattle.cm_syntax.specs.Step.{Move, step, slots_in, call_bytes_in, push_call}
 use Rattle.cm_meaning.specs.TypedState.{FitParameters}
@@ -306,7 +307,7 @@ module _ (program : Program) (form : Form) (page limit : ℕ) (input : List ℤ)
     shape : AreFrames program page (f ∷ calls) (F ∷ spot.frames)
     shape = (may_stand, sp_four, fits_below, x.frames, two_words)
 
-    module _ (next_fits : RestFits program page K (f ∷ calls)) (w : Mapped) (more : Extends m.words w) (mapped : (a : ℕ) → a % 4 ≡ 0 → sp - B ≤ a → a < sp → IsSome (w a)) where
+    module _ (next_fits : RestFits program page K (f ∷ calls)) (w : Mapped) (more : Extends m.words w) (mapped : (a : ℕ) → a % 4 ≡ 0 → sp - B ≤ a → a < sp → IsWritable (w a)) where
       abbrev final : Stack
       final = push_frame h L ws
 
@@ -325,7 +326,7 @@ module _ (program : Program) (form : Form) (page limit : ℕ) (input : List ℤ)
           after_one program form page code compiled 5 (sub reg.SP reg.SP reg.HELP) (before_frame w) (at_store w) m6 laid.frame.0 (sub_effect w)
           (frame_by code B p2 r w (before_frame w) 0 zero_is sized (omega (arith, bound)) laid.frame refl)
 
-      live : (d s : ℕ) (r : Reference) → d < L → h.references d s ≡ present r → r.depth < L
+      live : (d s : ℕ) (r : Reference) → d < L → value_in (h.references d s) ≡ Some r → r.depth < L
       live d s r deep is = let below = refers_below program page limit (control calls account (framing f ws) k) h d s r formed is in omega (arith, below, deep)
 
       framed : IsFramed program page f calls F spot.frames shape h final (suc (end_count k)) K next_fits [] (framed_words B r w)

@@ -1,24 +1,26 @@
 -- The laws of a call and of a spawn behind their arguments: the words go to the registers, and then the call is at hand; or
 -- the spawn is at its service.
-use Rattle.std.proofs.Common.{◌≡◌, ℕ, zero, suc, ◌+◌, ◌*◌, ◌%◌, ◌^◌, ◌<◌, ◌≤◌, List, [], ◌∷◌, ◌++◌, length, Option, None, Some, refl, sym, ap, ◌∙◌, subst, arith, inl, inr, length-append}
+use Rattle.std.proofs.Common.{◌≡◌, ℕ, zero, suc, ◌+◌, ◌*◌, ◌%◌, ◌^◌, ◌<◌, ◌≤◌, List, [], ◌∷◌, ◌++◌, length, Option, None, Some, refl, sym, ap, ◌∙◌, subst, arith, length-append}
 use Rattle.std.proofs.Math.Nat.{le-max_left}
 use Rattle.std.proofs.lemmas.Bool.{ne_eqb}
-use Rattle.std.proofs.lemmas.Option.{same_Some}
-use Rattle.std.specs.Prelude.{◌⊎◌, Bool, true, false, ◌==◌, if◌then◌else◌, ℤ, pos, ◌-ℤ◌, slice_get}
+use Rattle.std.specs.Prelude.{false, ◌==◌, ℤ, pos, ◌-ℤ◌, slice_get}
 use Rattle.cm_isa.specs.Alu.{offset}
 use Rattle.cm_isa.specs.Action.{follow}
 use Rattle.cm_isa.specs.Operation.{Operation}
-use Rattle.cm_isa.specs.Machine.{Machine, Mapped, Code, machine_with}
+use Rattle.cm_isa.specs.Machine.{Machine, Mapped, Code, machine_with, Stored}
 use Rattle.cm_isa.specs.Run.{ComesTo}
 use Rattle.cm_isa.specs.Register.{with_register}
 use Rattle.cm_isa.specs.declared.convention.TheConstants as reg
+use Rattle.cm_gen.proofs.MappedWordLaw.{same_own}
+use Rattle.cm_gen.proofs.PartLaw.{lent_part, kept_part}
+use Rattle.cm_syntax.proofs.CellLaw.{map_sum}
 use Rattle.cm_syntax.specs.declared.expr.Call.{Row_of-Arg, end_of-Arg, more_of-Arg}
 use Rattle.cm_syntax.specs.declared.stmt.Slot.{Slot}
 use Rattle.cm_syntax.specs.declared.stmt.Slot.TheVariants as slot
 use Rattle.cm_syntax.specs.declared.stmt.Function.{Function}
 use Rattle.cm_syntax.specs.declared.stmt.Program.{Program}
 use Rattle.cm_syntax.specs.Label.{silent}
-use Rattle.cm_syntax.specs.Stack.{Cell, absent, Stack, Destination, Argument, word, slice, lends, lent_stack, kept_stack}
+use Rattle.cm_syntax.specs.Stack.{Stack, Destination, Argument, word, slice, lent_stack, kept_stack}
 use Rattle.cm_syntax.specs.Rest.{Purpose, called, spawned, Item, arguments, deliver, Hand, idle, entering, control}
 use Rattle.cm_syntax.specs.Step.{scalar_slice, spawn_call, enter_call, item_step}
 use Rattle.cm_meaning.specs.Activation.{end_count}
@@ -33,8 +35,8 @@ use Rattle.cm_gen.specs.Part.{Part, call, placed, straight, table_word}
 use Rattle.cm_gen.specs.Expression.{slot_offset, temporary_offset, hand_over}
 use Rattle.cm_gen.specs.Statement.{deliver_code, destination_code, enter_code}
 use Rattle.cm_gen.specs.Standing.{Stands, LeadsTo, StandsThen, Frame, IsCompiled, arguments_size, used, slots_here, form_here, Coded}
-use Rattle.cm_gen.specs.FrameWord.{bits, word_number, word_address, pointer_of, reference_address, AreFrames, slice_cell, value_cell, cell_in, HasCell, Holds, HasTemporary, HasArguments, Kept, HasOwn}
-use Rattle.cm_gen.specs.Formed.{HasRoom, RestFits, Formed}
+use Rattle.cm_gen.specs.FrameWord.{bits, word_number, word_address, pointer_of, reference_address, AreFrames, value_cell, cell_in, HasCell, Holds, HasTemporary, HasArguments, Kept, HasOwn, slice_value}
+use Rattle.cm_gen.specs.Formed.{HasRoom, RestFits, Formed, IsPartOf}
 use Rattle.cm_gen.specs.StandsFor.{Spot, stays, Handed, passed, child_machine, Placed, ExactAt, Serves, destination_address, Spawns, ArrivesSpawn, LeadsFrom}
 use Rattle.cm_gen.proofs.Step.{comes_by_one, comes_on, follow_is, with_register_other, with_register_same}
 use Rattle.cm_gen.proofs.CodeLaw.{straight_append}
@@ -52,6 +54,7 @@ use Rattle.cm_gen.proofs.ExpressionItemLaw.{load_number_some, slots_are}
 use Rattle.cm_gen.proofs.ArgumentWordsLaw.{arguments_few}
 use Rattle.cm_gen.proofs.ArgumentItemLaw.{argument_law}
 use Rattle.cm_gen.proofs.WriteLaw as write
+use Rattle.cm_gen.proofs.CellLaw.{cell_part}
 
 -- ---- code before a part
 
@@ -115,7 +118,7 @@ module _ (program : Program) (page : ℕ) (code : Code) (f : ℕ) (calls : List 
       value z has s does t hands zero v less there =
           let here : j + 0 ≡ j = omega arith in
           let reg_here : r ≡ r + 0 = omega arith in
-          subst (λ q. t.registers q ≡ v) reg_here (hands.kept r (omega arith) ∙ does.value ∙ same_Some z v (sym has ∙ subst (λ i. HasTemporary program page (f ∷ calls) frames m.words i v) here there))
+          subst (λ q. t.registers q ≡ v) reg_here (hands.kept r (omega arith) ∙ does.value ∙ same_own z v (sym has ∙ subst (λ i. HasTemporary program page (f ∷ calls) frames m.words i v) here there))
       value z has s does t hands (suc n) v less there =
           let here : j + suc n ≡ j + 1 + n = omega arith in
           let reg_here : r + 1 + n ≡ r + suc n = omega arith in
@@ -140,38 +143,23 @@ module _ (program : Program) (page : ℕ) (code : Code) (f : ℕ) (calls : List 
 
 module _ (program : Program) (page : ℕ) where
   -- a part of a stack is where the whole is
-  holds_part : (calls : List ℕ) (frames : List Frame) (h g : Stack) (w : Mapped) → ((d s i : ℕ) → (g.words d s i ≡ absent) ⊎ (g.words d s i ≡ h.words d s i))
-      → ((d s : ℕ) → (g.references d s ≡ absent) ⊎ (g.references d s ≡ h.references d s)) → Holds program page calls frames h w → Holds program page calls frames g w
-  holds_part calls frames h g w values references holds = λ d s i deep place. by_kind (slice_get (slots_at program calls d) s) d s i (w (word_address frames d (word_number (slots_at program calls d) s i))) (holds d s i deep place)
+  holds_part : (calls : List ℕ) (frames : List Frame) (h g : Stack) (w : Mapped) → IsPartOf g h → Holds program page calls frames h w → Holds program page calls frames g w
+  holds_part calls frames h g w parts holds = λ d s i deep place. by_kind (slice_get (slots_at program calls d) s) d s i (w (word_address frames d (word_number (slots_at program calls d) s i))) (holds d s i deep place)
     where
-      value : (d s i : ℕ) (found : Option ℕ) → HasCell program page (value_cell program page (h.words d s i)) found → HasCell program page (value_cell program page (g.words d s i)) found
-      value d s i found has = elim (values d s i) [
-        | inl none ↦ subst (λ c. HasCell program page (value_cell program page c) found) (sym none) tt
-        | inr same ↦ subst (λ c. HasCell program page (value_cell program page c) found) (sym same) has
-      ]
+      value : (d s i : ℕ) (found : Stored) → HasCell program page (value_cell program page (h.words d s i)) found → HasCell program page (value_cell program page (g.words d s i)) found
+      value d s i found has = let p = parts.words d s i in cell_part program page _ _ _ found (map_sum bits (g.words d s i) p.0 (h.words d s i) p.1) has
 
-      by_kind : (o : Option Slot) (d s i : ℕ) (found : Option ℕ) → HasCell program page (cell_in program page o calls frames h d s i) found → HasCell program page (cell_in program page o calls frames g d s i) found
+      by_kind : (o : Option Slot) (d s i : ℕ) (found : Stored) → HasCell program page (cell_in program page o calls frames h d s i) found → HasCell program page (cell_in program page o calls frames g d s i) found
       by_kind None d s i found has = value d s i found has
       by_kind (Some slot.Scalar) d s i found has = value d s i found has
       by_kind (Some (slot.Array n)) d s i found has = value d s i found has
-      by_kind (Some slot.Slice) d s i found has = elim (references d s) [
-        | inl none ↦ subst (λ c. HasCell program page (slice_cell program page calls frames c i) found) (sym none) tt
-        | inr same ↦ subst (λ c. HasCell program page (slice_cell program page calls frames c i) found) (sym same) has
-      ]
+      by_kind (Some slot.Slice) d s i found has = let p = parts.references d s in cell_part program page _ _ _ found (map_sum (λ r. slice_value program page calls frames r i) (g.references d s) p.0 (h.references d s) p.1) has
 
   pub holds_lent : (calls : List ℕ) (frames : List Frame) (h : Stack) (x : Destination) (ws : List Argument) (w : Mapped) → Holds program page calls frames h w → Holds program page calls frames (lent_stack h x ws) w
-  holds_lent calls frames h x ws w holds = holds_part calls frames h (lent_stack h x ws) w (λ d s i. lent (lends x ws d s i) (h.words d s i)) (λ d s. inl refl) holds
-    where
-      lent : (b : Bool) (c : Cell ℤ) → ((if b then c else absent) ≡ absent) ⊎ ((if b then c else absent) ≡ c)
-      lent true c = inr refl
-      lent false c = inl refl
+  holds_lent calls frames h x ws w holds = holds_part calls frames h (lent_stack h x ws) w (lent_part h x ws) holds
 
   pub holds_kept : (calls : List ℕ) (frames : List Frame) (h : Stack) (x : Destination) (ws : List Argument) (w : Mapped) → Holds program page calls frames h w → Holds program page calls frames (kept_stack h x ws) w
-  holds_kept calls frames h x ws w holds = holds_part calls frames h (kept_stack h x ws) w (λ d s i. keeps (lends x ws d s i) (h.words d s i)) (λ d s. inr refl) holds
-    where
-      keeps : (b : Bool) (c : Cell ℤ) → ((if b then absent else c) ≡ absent) ⊎ ((if b then absent else c) ≡ c)
-      keeps true c = inl refl
-      keeps false c = inr refl
+  holds_kept calls frames h x ws w holds = holds_part calls frames h (kept_stack h x ws) w (kept_part h x ws) holds
 
 -- where the registers of arguments are the same, they have the same arguments
 handed_within : (program : Program) (page : ℕ) (calls : List ℕ) (frames : List Frame) (r t : ℕ → ℕ) (ws : List Argument) (n : ℕ) → arguments_size ws ≤ n → ((q : ℕ) → reg.RESULT ≤ q → q < reg.RESULT + n → t q ≡ r q)

@@ -3,13 +3,13 @@ use Rattle.std.proofs.Common.{◌≡◌, ℕ, zero, suc, ◌+◌, ◌-◌, ◌*�
 use Rattle.std.proofs.lemmas.Bool.{ne_eqb, lt-ltb, le-ltb}
 use Rattle.std.proofs.lemmas.Bool.Decides.{leb_tells}
 use Rattle.std.proofs.lemmas.Int.{ints}
-use Rattle.std.specs.Prelude.{Bool, true, false, ◌==◌, nat_lt, nat_le, if◌then◌else◌, ℤ, pos, negsuc, ◌+ℤ◌, ◌-ℤ◌, FitsSigned, IsSome, slice_get}
+use Rattle.std.specs.Prelude.{Bool, true, false, ◌==◌, nat_lt, nat_le, if◌then◌else◌, ℤ, pos, negsuc, ◌+ℤ◌, ◌-ℤ◌, FitsSigned, slice_get}
 use Rattle.std.specs.Int.{w32}
 use Rattle.cm_isa.specs.declared.convention.TheConstants as reg
 use Rattle.cm_isa.specs.Alu.{int, word, offset}
 use Rattle.cm_isa.specs.Action.{follow}
 use Rattle.cm_isa.specs.Operation.{Operation}
-use Rattle.cm_isa.specs.Machine.{Machine, Mapped, Code, machine_after, machine_with, with_word}
+use Rattle.cm_isa.specs.Machine.{Machine, Mapped, Code, machine_after, machine_with, with_word, IsWritable}
 use Rattle.cm_isa.specs.Run.{ComesTo}
 use Rattle.cm_isa.specs.Register.{with_register}
 use Rattle.cm_syntax.specs.declared.stmt.Slot.{Slot}
@@ -19,9 +19,10 @@ use Rattle.cm_syntax.specs.declared.stmt.Program.{Program}
 use Rattle.cm_syntax.specs.Operator.{natural}
 use Rattle.cm_syntax.specs.Label.{silent, traps}
 use Rattle.cm_syntax.specs.Trap as kind
-use Rattle.cm_syntax.specs.Stack.{Cell, absent, unset, present, Reference, Stack, write_reference, write_parts}
+use Rattle.cm_syntax.specs.Cell.{value_in, may_write}
+use Rattle.cm_syntax.specs.Stack.{Reference, Stack, write_reference, write_parts}
 use Rattle.cm_syntax.specs.Rest.{Item, apply, arguments, pass, store, sequence, part, join, end, Hand, idle, holds, returned, entering, framing, control}
-use Rattle.cm_syntax.specs.Step.{top, is_split, when_held, item_step}
+use Rattle.cm_syntax.specs.Step.{top, is_split, when_writable, item_step}
 use Rattle.cm_meaning.specs.Activation.{IsInner, FitsHand, end_count}
 use Rattle.cm_meaning.specs.TypedState.{slots_at, HasNoStore}
 use Rattle.cm_gen.specs.declared.form.Form.{Form}
@@ -30,18 +31,18 @@ use Rattle.cm_gen.specs.Code.{store_slot, service}
 use Rattle.cm_gen.specs.Part.{Part, straight}
 use Rattle.cm_gen.specs.Expression.{words_through, slot_offset, base}
 use Rattle.cm_gen.specs.Statement.{store_pair, store_parts, part_code, sequence_code}
-use Rattle.cm_gen.specs.FrameWord.{bits, words_in_slot, IsPlace, word_number, words_at, address_at, word_address, pointer_of, AreFrames, reference_address, slice_cell, cell_in, HasCell, Holds, row_of, Kept, HasOwn}
+use Rattle.cm_gen.specs.FrameWord.{bits, words_in_slot, IsPlace, word_number, words_at, address_at, word_address, pointer_of, AreFrames, reference_address, slice_cell, cell_in, HasCell, Holds, row_of, Kept, HasOwn, slice_value}
 use Rattle.cm_gen.specs.Formed.{RestFits, Formed}
 use Rattle.cm_gen.specs.Standing.{StandsThen, Frame, slots_here, form_here, Coded}
 use Rattle.cm_gen.specs.StandsFor.{Spot, Placed, ExactAt, LeadsFrom}
 use Rattle.cm_gen.proofs.WordLaw as words
 use Rattle.cm_gen.proofs.Step.{comes_by_one, comes_on, follow_is}
-use Rattle.cm_gen.proofs.MappedWordLaw.{some_of, is_some_at, with_word_mapped}
+use Rattle.cm_gen.proofs.MappedWordLaw.{own_of, with_word_mapped}
 use Rattle.cm_gen.proofs.PatternLaw.{Sets, sets_by_one, sets_by_two, store_slot_runs}
 use Rattle.cm_gen.proofs.StandingLaw.{parted, then_second, straight_length}
 use Rattle.cm_gen.proofs.StateLaw.{SameRegisters, exact_with, leads_to, leads_on, leads_stuck, by_held}
 use Rattle.cm_gen.proofs.FrameWordLaw.{slots_top, slot_at_offset, place_at_offset, place_low, place_word, kept_lasts, kept_place, own_put}
-use Rattle.cm_gen.proofs.CellLaw.{place_address, holds_slice}
+use Rattle.cm_gen.proofs.CellLaw.{place_address, holds_slice, cell_writable}
 use Rattle.cm_gen.proofs.DeeperLaw.{same_row}
 use Rattle.cm_gen.proofs.FactLaw.{IsNoCall, opened, row_within}
 use Rattle.cm_gen.proofs.BaseLaw.{IsCodeAt, code_at, code_front, code_back, IsRow, is_row, frame_place, Based, at_base, base_runs, service_runs}
@@ -50,6 +51,7 @@ use Rattle.cm_gen.proofs.LoopItemLaw.{with_value}
 use Rattle.cm_gen.proofs.LocateItemLaw.{by_row}
 use Rattle.cm_gen.proofs.WriteLaw.{store_some}
 use Rattle.cm_gen.proofs.WriteItemLaw.{slot_here}
+use Rattle.cm_syntax.proofs.CellLaw.{map_write}
 
 -- ---- what is kept over new references
 
@@ -114,22 +116,16 @@ module _ (program : Program) (page : ℕ) where
 
   -- the two words of a slice whose reference is held are mapped
   pair_mapped : (calls : List ℕ) (frames : List Frame) (h : Stack) (w : Mapped) (d s : ℕ) → Holds program page calls frames h w → d < length calls → slice_get (slots_at program calls d) s ≡ Some slot.Slice
-      → (h.references d s ≡ absent → ⊥) → (i : ℕ) → i < 2 → IsSome (w (place_address program page calls frames d s i))
+      → (may_write (h.references d s) ≡ true) → (i : ℕ) → i < 2 → IsWritable (w (place_address program page calls frames d s i))
   pair_mapped calls frames h w d s slots deep is some i less =
-      by_cell (h.references d s) i some
+      cell_writable program page (slice_cell program page calls frames (h.references d s) i) (w (place_address program page calls frames d s i)) (map_write (λ r. slice_value program page calls frames r i) (h.references d s) ∙ some)
       (subst (λ o. HasCell program page (cell_in program page o calls frames h d s i) (w (place_address program page calls frames d s i))) is (slots d s i deep (subst (λ o. i < words_in_slot o) (sym is) less)))
-    where
-      by_cell : (c : Cell Reference) (i : ℕ) → (c ≡ absent → ⊥) → HasCell program page (slice_cell program page calls frames c i) (w (place_address program page calls frames d s i)) → IsSome (w (place_address program page calls frames d s i))
-      by_cell absent i some h = absurd (some refl)
-      by_cell unset i some h = h
-      by_cell (present r) zero some h = is_some_at _ _ h
-      by_cell (present r) (suc i) some h = is_some_at _ _ h
 
   module _ (code : Code) where
     -- two registers go into the words of a slice of the running function
     puts_pair : (f : ℕ) (calls : List ℕ) (frames : List Frame) (s a b : ℕ) (m : Machine) → AreFrames program page (f ∷ calls) frames → slice_get (slots_here program (f ∷ calls)) s ≡ Some slot.Slice
         → m.registers reg.FP ≡ pointer_of frames → (a == reg.HELP) ≡ false → (b == reg.HELP) ≡ false
-        → ((i : ℕ) → i < 2 → IsSome (m.words (place_address program page (f ∷ calls) frames (length calls) s i)))
+        → ((i : ℕ) → i < 2 → IsWritable (m.words (place_address program page (f ∷ calls) frames (length calls) s i)))
         → IsCodeAt code m.counter (store_pair a b (slot_offset (slots_here program (f ∷ calls)) s))
         → (t : Machine) × ComesTo code (length (store_pair a b (slot_offset (slots_here program (f ∷ calls)) s))) m t
         × (t.counter ≡ m.counter + 4 * length (store_pair a b (slot_offset (slots_here program (f ∷ calls)) s)))
@@ -152,15 +148,15 @@ module _ (program : Program) (page : ℕ) where
         let below = front.below in
         let a0 = word_address frames (length calls) (word_number slots s 0) in
         let a1 = word_address frames (length calls) (word_number slots s 1) in
-        let old = some_of (m.words a0) (subst (λ z. IsSome (m.words z)) (sym (address 0)) (mapped 0 (omega arith))) in
+        let old = own_of (m.words a0) (subst (λ z. IsWritable (m.words z)) (sym (address 0)) (mapped 0 (omega arith))) in
         let first = store_slot_runs code a o a0 old.0 m plain_a (subst (λ p. p < 2 ^ 32) (sym pointer) low.fits) (ap (λ p. offset p o) pointer ∙ low.address) low.aligned old.1 (omega (arith, below, some1)) front.there in
         let n = first.0 in
         let does = first.2 in
         let back = code_back code one two does.counter there in
         let later = back.below in
         let same : n.registers reg.FP ≡ pointer_of frames = does.kept reg.FP refl ∙ pointer in
-        let still : IsSome (n.words a1) = subst (λ (w : Mapped). IsSome (w a1)) (sym does.words) (with_word_mapped m.words a0 (m.registers a) a1 (subst (λ z. IsSome (m.words z)) (sym (address 1)) (mapped 1 (omega arith)))) in
-        let old1 = some_of (n.words a1) still in
+        let still : IsWritable (n.words a1) = subst (λ (w : Mapped). IsWritable (w a1)) (sym does.words) (with_word_mapped m.words a0 (m.registers a) a1 (subst (λ z. IsWritable (m.words z)) (sym (address 1)) (mapped 1 (omega arith)))) in
+        let old1 = own_of (n.words a1) still in
         let second = store_slot_runs code b (o +ℤ pos 4) a1 old1.0 n plain_b (subst (λ p. p < 2 ^ 32) (sym same) up.fits) (ap (λ p. offset p (o +ℤ pos 4)) same ∙ up.address) up.aligned old1.1 (omega (arith, later, some2)) back.there in
         let t = second.0 in
         let does2 = second.2 in
@@ -269,14 +265,14 @@ module _ (program : Program) (page : ℕ) (code : Code) (f : ℕ) (calls : List 
   abbrev right_code : List Operation
   right_code = slli reg.VALUE reg.VALUE (pos 2) ∷ add reg.VALUE reg.LEFT reg.VALUE ∷ store_pair reg.VALUE reg.SPARE (slot_offset (slots_here program (f ∷ calls)) r)
 
-  right_behind : (a c e : ℕ) (m s : Machine) → m.registers reg.FP ≡ pointer_of frames → m.registers reg.SPARE ≡ e → ((i : ℕ) → i < 2 → IsSome (m.words (at r i)))
+  right_behind : (a c e : ℕ) (m s : Machine) → m.registers reg.FP ≡ pointer_of frames → m.registers reg.SPARE ≡ e → ((i : ℕ) → i < 2 → IsWritable (m.words (at r i)))
       → IsCodeAt code m.counter right_code → ComesTo code 2 m s → Sets reg.VALUE (a + 4 * c) 8 m s
       → (t : Machine) × ComesTo code (length right_code) m t × StoresPair (at r 0) (at r 1) (a + 4 * c) e (4 * length right_code) m t
   right_behind a c e m s pointer spare mapped there first does =
       let pair = store_pair reg.VALUE reg.SPARE (slot_offset (slots_here program (f ∷ calls)) r) in
       let moves : List Operation = slli reg.VALUE reg.VALUE (pos 2) ∷ add reg.VALUE reg.LEFT reg.VALUE ∷ [] in
       let second = puts_pair program page code f calls frames r reg.VALUE reg.SPARE s shape is_r (does.kept reg.FP refl ∙ pointer) refl refl
-      (λ i less. subst (λ (w : Mapped). IsSome (w (at r i))) (sym does.words) (mapped i less)) (code_back code moves pair does.counter there) in
+      (λ i less. subst (λ (w : Mapped). IsWritable (w (at r i))) (sym does.words) (mapped i less)) (code_back code moves pair does.counter there) in
       let size : 2 + length pair ≡ length right_code = omega arith in (
         second.0,
         subst (λ n. ComesTo code n m second.0) size (comes_on code 2 (length pair) m s second.0 first second.1),
@@ -288,7 +284,7 @@ module _ (program : Program) (page : ℕ) (code : Code) (f : ℕ) (calls : List 
       )
 
   right_stored : (a c e : ℕ) (m : Machine) → m.registers reg.FP ≡ pointer_of frames → m.registers reg.VALUE ≡ c → m.registers reg.LEFT ≡ a → m.registers reg.SPARE ≡ e → a + 4 * c ≤ 2 ^ 30
-      → ((i : ℕ) → i < 2 → IsSome (m.words (at r i))) → IsCodeAt code m.counter right_code
+      → ((i : ℕ) → i < 2 → IsWritable (m.words (at r i))) → IsCodeAt code m.counter right_code
       → (t : Machine) × ComesTo code (length right_code) m t × StoresPair (at r 0) (at r 1) (a + 4 * c) e (4 * length right_code) m t
   right_stored a c e m pointer value left spare below mapped there =
       let pair = store_pair reg.VALUE reg.SPARE (slot_offset (slots_here program (f ∷ calls)) r) in
@@ -302,7 +298,7 @@ module _ (program : Program) (page : ℕ) (code : Code) (f : ℕ) (calls : List 
     pub words : t.words ≡ with_word (with_word (with_word (with_word m.words (at l 0) a) (at l 1) c) (at r 0) (a + 4 * c)) (at r 1) e
 
   both_stored : (a c e : ℕ) (m s : Machine) → m.registers reg.FP ≡ pointer_of frames → m.registers reg.VALUE ≡ c → m.registers reg.LEFT ≡ a → m.registers reg.SPARE ≡ e → a + 4 * c ≤ 2 ^ 30
-      → ((i : ℕ) → i < 2 → IsSome (m.words (at r i))) → IsCodeAt code m.counter (store_parts (slots_here program (f ∷ calls)) l r)
+      → ((i : ℕ) → i < 2 → IsWritable (m.words (at r i))) → IsCodeAt code m.counter (store_parts (slots_here program (f ∷ calls)) l r)
       → let pair = store_pair reg.LEFT reg.VALUE (slot_offset (slots_here program (f ∷ calls)) l) in
       ComesTo code (length pair) m s → s.counter ≡ m.counter + 4 * length pair → ((q : ℕ) → (q == reg.HELP) ≡ false → s.registers q ≡ m.registers q)
       → s.words ≡ with_word (with_word m.words (at l 0) (m.registers reg.LEFT)) (at l 1) (m.registers reg.VALUE)
@@ -311,7 +307,7 @@ module _ (program : Program) (page : ℕ) (code : Code) (f : ℕ) (calls : List 
       let pair = store_pair reg.LEFT reg.VALUE (slot_offset (slots_here program (f ∷ calls)) l) in
       let size = length-append pair right_code in
       let words_s : s.words ≡ with_word (with_word m.words (at l 0) a) (at l 1) c = stored ∙ pair_same m.words m.words (at l 0) (at l 1) (m.registers reg.LEFT) a (m.registers reg.VALUE) c refl left value in
-      let still : (i : ℕ) → i < 2 → IsSome (s.words (at r i)) = λ i less. subst (λ (w : Mapped). IsSome (w (at r i))) (sym words_s)
+      let still : (i : ℕ) → i < 2 → IsWritable (s.words (at r i)) = λ i less. subst (λ (w : Mapped). IsWritable (w (at r i))) (sym words_s)
       (with_word_mapped (with_word m.words (at l 0) a) (at l 1) c (at r i) (with_word_mapped m.words (at l 0) a (at r i) (mapped i less))) in
       let second = right_stored a c e s (kept reg.FP refl ∙ pointer) (kept reg.VALUE refl ∙ value) (kept reg.LEFT refl ∙ left) (kept reg.SPARE refl ∙ spare) below still (code_back code pair right_code counter there) in (
         second.0,
@@ -324,7 +320,7 @@ module _ (program : Program) (page : ℕ) (code : Code) (f : ℕ) (calls : List 
       )
 
   parts_stored : (a c e : ℕ) (m : Machine) → m.registers reg.FP ≡ pointer_of frames → m.registers reg.VALUE ≡ c → m.registers reg.LEFT ≡ a → m.registers reg.SPARE ≡ e → a + 4 * c ≤ 2 ^ 30
-      → ((i : ℕ) → i < 2 → IsSome (m.words (at l i))) → ((i : ℕ) → i < 2 → IsSome (m.words (at r i))) → IsCodeAt code m.counter (store_parts (slots_here program (f ∷ calls)) l r)
+      → ((i : ℕ) → i < 2 → IsWritable (m.words (at l i))) → ((i : ℕ) → i < 2 → IsWritable (m.words (at r i))) → IsCodeAt code m.counter (store_parts (slots_here program (f ∷ calls)) l r)
       → (t : Machine) × ComesTo code (length (store_parts (slots_here program (f ∷ calls)) l r)) m t × StoresParts a c e (4 * length (store_parts (slots_here program (f ∷ calls)) l r)) m t
   parts_stored a c e m pointer value left spare below mapped_l mapped_r there =
       let pair = store_pair reg.LEFT reg.VALUE (slot_offset (slots_here program (f ∷ calls)) l) in
@@ -334,7 +330,7 @@ module _ (program : Program) (page : ℕ) (code : Code) (f : ℕ) (calls : List 
 module _ (program : Program) (form : Form) (page limit : ℕ) (input : List ℤ) (code : Code) where
   module _ (spot : Spot) (left f : ℕ) (calls : List ℕ) (account : ℕ) (v : ℤ) (k : List Item) (h : Stack) (m : Machine) (a l r : ℕ) {n : _} (row : Row_of-Stmt ℕ n) (x : Reference)
       (is_l : slice_get (slots_here program (f ∷ calls)) l ≡ Some slot.Slice) (is_r : slice_get (slots_here program (f ∷ calls)) r ≡ Some slot.Slice)
-      (whole : row_of program page (f ∷ calls) h a ≡ present x) (is : IsRow program page (f ∷ calls) spot.frames x)
+      (whole : value_in (row_of program page (f ∷ calls) h a) ≡ Some x) (is : IsRow program page (f ∷ calls) spot.frames x)
       (inner : IsInner k) (none : HasNoStore k) (fits : RestFits program page (sequence row ∷ k) (f ∷ calls))
       (y : ExactAt program form page input code spot left (control (f ∷ calls) account (holds v) (part a l r row ∷ k)) h m)
       (here : Placed program form page input code (holds v) (part a l r row ∷ k) (f ∷ calls) spot.frames m.registers m.counter) where
@@ -483,15 +479,15 @@ module _ (program : Program) (form : Form) (page limit : ℕ) (input : List ℤ)
         (sym (split_address program page (f ∷ calls) spot.frames x (natural v) y.frames is few)))
         (omega (arith, c0, c1, c2, size)))
 
-    part_tested : natural v ≤ x.length → bits v ≡ natural v → (h.references (length calls) l ≡ absent → ⊥) → (h.references (length calls) r ≡ absent → ⊥) → (s u : Machine)
+    part_tested : natural v ≤ x.length → bits v ≡ natural v → (may_write (h.references (length calls) l) ≡ true) → (may_write (h.references (length calls) r) ≡ true) → (s u : Machine)
         → ComesTo code (length (base slots a)) m s → Based program page (f ∷ calls) spot.frames x (4 * length (base slots a)) m s
         → ComesTo code 2 s u → Sets reg.SPARE (x.length - natural v) 16 s u → IsCodeAt code s.counter tail → goes
     part_tested few own some_l some_r s u first does second does2 there =
         let below = is.below in
         let c1 = does2.counter in
         let words_u : u.words ≡ m.words = does2.words ∙ does.words in
-        let mapped : (z : ℕ) → slice_get slots z ≡ Some slot.Slice → (h.references (length calls) z ≡ absent → ⊥) → (i : ℕ) → i < 2 → IsSome (u.words (place_of z i)) =
-        λ z e some i less. subst (λ (w : Mapped). IsSome (w (place_of z i))) (sym words_u)
+        let mapped : (z : ℕ) → slice_get slots z ≡ Some slot.Slice → (may_write (h.references (length calls) z) ≡ true) → (i : ℕ) → i < 2 → IsWritable (u.words (place_of z i)) =
+        λ z e some i less. subst (λ (w : Mapped). IsWritable (w (place_of z i))) (sym words_u)
         (pair_mapped program page (f ∷ calls) spot.frames h m.words (length calls) z y.slots (omega arith) (top_slice z e) some i less) in
         let later : IsCodeAt code u.counter (store_parts slots l r) =
         code_back code (bgeu reg.HELP reg.VALUE (pos 12) ∷ (service (pos 8) ++ sub reg.SPARE reg.HELP reg.VALUE ∷ [])) (store_parts slots l r) (omega (arith, c1)) there in
@@ -500,13 +496,13 @@ module _ (program : Program) (form : Form) (page limit : ℕ) (input : List ℤ)
         (omega (arith, below, few)) (mapped l is_l some_l) (mapped r is_r some_r) later in
         part_stored few s u third.0 first does second does2 third.1 third.2
 
-    part_based : natural v ≤ x.length → bits v ≡ natural v → (h.references (length calls) l ≡ absent → ⊥) → (h.references (length calls) r ≡ absent → ⊥) → (s : Machine)
+    part_based : natural v ≤ x.length → bits v ≡ natural v → (may_write (h.references (length calls) l) ≡ true) → (may_write (h.references (length calls) r) ≡ true) → (s : Machine)
         → ComesTo code (length (base slots a)) m s → Based program page (f ∷ calls) spot.frames x (4 * length (base slots a)) m s → IsCodeAt code s.counter tail → goes
     part_based few own some_l some_r s first does there =
         let ran = takes_rest code (natural v) x.length (store_parts slots l r) s (does.kept reg.VALUE refl refl ∙ here.0 ∙ own) does.count few is.small there in
         part_tested few own some_l some_r s ran.0 first does ran.1 ran.2 there
 
-    part_goes : is_split v x.length ≡ true → (h.references (length calls) l ≡ absent → ⊥) → (h.references (length calls) r ≡ absent → ⊥) → goes
+    part_goes : is_split v x.length ≡ true → (may_write (h.references (length calls) l) ≡ true) → (may_write (h.references (length calls) r) ≡ true) → goes
     part_goes can some_l some_r =
         let split = split_is v x.length here.1 can in
         let first = base_runs program page code (f ∷ calls) spot.frames h a x m (at_base program form page input code spot left _ h m y) whole (code_front code (base slots a) tail tail_there) in
@@ -541,9 +537,9 @@ module _ (program : Program) (form : Form) (page limit : ℕ) (input : List ℤ)
     where
       by_split : (v : ℤ) (y : Reference) (can : Bool) → is_split v y.length ≡ can
           → (is_split v y.length ≡ false → LeadsFrom program form page input code spot left (f ∷ calls) h (traps kind.Index) m)
-          → (is_split v y.length ≡ true → LeadsFrom program form page input code spot left (f ∷ calls) h (when_held (h.references (length calls) l) (when_held (h.references (length calls) r)
+          → (is_split v y.length ≡ true → LeadsFrom program form page input code spot left (f ∷ calls) h (when_writable (h.references (length calls) l) (when_writable (h.references (length calls) r)
           (silent (control (f ∷ calls) account idle (sequence row ∷ k)) (write_parts h (length calls) l r y (natural v))))) m)
-          → LeadsFrom program form page input code spot left (f ∷ calls) h (if can then when_held (h.references (length calls) l) (when_held (h.references (length calls) r)
+          → LeadsFrom program form page input code spot left (f ∷ calls) h (if can then when_writable (h.references (length calls) l) (when_writable (h.references (length calls) r)
           (silent (control (f ∷ calls) account idle (sequence row ∷ k)) (write_parts h (length calls) l r y (natural v)))) else traps kind.Index) m
       by_split v y true e trap goes = goes e
       by_split v y false e trap goes = trap e

@@ -10,9 +10,10 @@ use Rattle.cm_syntax.specs.declared.stmt.Program.{Program}
 use Rattle.cm_syntax.specs.Label.{silent, traps, stuck}
 use Rattle.cm_syntax.specs.Trap as kind
 use Rattle.cm_syntax.specs.Operator.{divides}
-use Rattle.cm_syntax.specs.Stack.{Cell, absent, unset, present, Stack}
+use Rattle.cm_syntax.specs.Cell.{Cell, value_in, may_write}
+use Rattle.cm_syntax.specs.Stack.{Stack}
 use Rattle.cm_syntax.specs.Rest.{Item, Hand, idle, holds, returned, entering, framing, Control, control}
-use Rattle.cm_syntax.specs.Step.{Move, when_present, when_held, when_value, when_result, when_some}
+use Rattle.cm_syntax.specs.Step.{Move, when_readable, when_writable, when_value, when_result, when_some}
 use Rattle.cm_meaning.specs.Activation.{end_count}
 use Rattle.cm_gen.specs.declared.form.Form.{Form}
 use Rattle.cm_gen.specs.Standing.{Frame, LeadsTo, Coded}
@@ -21,6 +22,7 @@ use Rattle.cm_gen.specs.StandsFor.{Spot, stays, Placed, ExactAt, stands, Arrives
 use Rattle.cm_gen.proofs.Step.{comes_on}
 use Rattle.cm_gen.proofs.StandingLaw.{leads_map}
 use Rattle.cm_gen.proofs.PatternLaw.{Sets, Puts}
+use Rattle.cm_syntax.proofs.AccessLaw.{reading, writing}
 
 -- the registers that only calls and returns change, and 0
 pub record SameRegisters (r t : ℕ → ℕ) : Type 0 where
@@ -153,17 +155,13 @@ module _ (program : Program) (form : Form) (page : ℕ) (input : List ℤ) (code
   by_value (entering g ws) f law = leads_stuck
   by_value (framing g ws) f law = leads_stuck
 
-  pub by_present : {A : Type 0} {spot : Spot} {left : ℕ} {calls : List ℕ} {h : Stack} {m : Machine} (cell : Cell A) (f : A → Move) → ((v : A) → cell ≡ present v → leads spot left calls h (f v) m)
-      → leads spot left calls h (when_present cell f) m
-  by_present absent f law = leads_stuck
-  by_present unset f law = leads_stuck
-  by_present (present v) f law = law v refl
+  pub by_present : {A : Type 0} {spot : Spot} {left : ℕ} {calls : List ℕ} {h : Stack} {m : Machine} (cell : Cell A) (f : A → Move) → ((v : A) → value_in cell ≡ Some v → leads spot left calls h (f v) m)
+      → leads spot left calls h (when_readable cell f) m
+  by_present {spot = spot} {left = left} {calls = calls} {h = h} {m = m} cell f law = reading (λ move. leads spot left calls h move m) leads_stuck cell f law
 
-  pub by_held : {A : Type 0} {spot : Spot} {left : ℕ} {calls : List ℕ} {h : Stack} {m : Machine} (cell : Cell A) (move : Move) → ((cell ≡ absent → ⊥) → leads spot left calls h move m)
-      → leads spot left calls h (when_held cell move) m
-  by_held absent move law = leads_stuck
-  by_held unset move law = law (λ e. cc)
-  by_held (present v) move law = law (λ e. cc)
+  pub by_held : {A : Type 0} {spot : Spot} {left : ℕ} {calls : List ℕ} {h : Stack} {m : Machine} (cell : Cell A) (move : Move) → (may_write cell ≡ true → leads spot left calls h move m)
+      → leads spot left calls h (when_writable cell move) m
+  by_held {spot = spot} {left = left} {calls = calls} {h = h} {m = m} cell move law = writing (λ move. leads spot left calls h move m) leads_stuck cell move law
 
   pub by_result : {spot : Spot} {left : ℕ} {calls : List ℕ} {h : Stack} {m : Machine} (o : Op) (result : Option ℤ) (f : ℤ → Move)
       → ((v : ℤ) → result ≡ Some v → leads spot left calls h (f v) m) → (result ≡ None → divides o ≡ true → leads spot left calls h (traps kind.Divide) m)

@@ -6,7 +6,7 @@ use Rattle.cm_isa.specs.Operation.{Operation}
 use Rattle.cm_isa.specs.declared.execution.Action.TheVariants.{Loads, Stores}
 use Rattle.cm_isa.specs.declared.execution.Size.TheVariants.{Whole}
 use Rattle.cm_isa.specs.Action.{follow}
-use Rattle.cm_isa.specs.Machine.{Machine, Code, InstructionsAt, machine_after, action_machine, machine_with, with_word}
+use Rattle.cm_isa.specs.Machine.{Machine, Code, InstructionsAt, machine_after, action_machine, machine_with, with_word, writable, reads}
 use Rattle.cm_isa.specs.Run.{ComesTo}
 use Rattle.cm_isa.specs.Register.{with_register}
 
@@ -47,13 +47,13 @@ pub with_register_other : (rs : ℕ → ℕ) (rd v r : ℕ) → (r == rd) ≡ fa
 with_register_other rs rd v r other = elim (rd == reg.ZERO) as (λ b. (if b then rs r else (if r == rd then v else rs r)) ≡ rs r) [ true ↦ refl | false ↦ rw other refl ]
 
 -- a load of a whole word that is mapped
-pub load_word : (rd a v : ℕ) (m : Machine) → a % 4 ≡ 0 → m.words a ≡ Some v → action_machine (Loads Whole true a) rd m ≡ Some (machine_with m (with_register m.registers rd v) (follow m.counter))
+pub load_word : (rd a v : ℕ) (m : Machine) → a % 4 ≡ 0 → reads (m.words a) ≡ Some v → action_machine (Loads Whole true a) rd m ≡ Some (machine_with m (with_register m.registers rd v) (follow m.counter))
 load_word rd a v m aligned there =
     let base : a - 0 ≡ a = omega arith in
     rw (aligned, base, there) refl
 
 -- a store to a whole word that is mapped
-pub store_word : (rd a v old : ℕ) (m : Machine) → a % 4 ≡ 0 → m.words a ≡ Some old
+pub store_word : (rd a v old : ℕ) (m : Machine) → a % 4 ≡ 0 → m.words a ≡ writable old
     → action_machine (Stores Whole a v) rd m ≡ Some (record { registers = m.registers; counter = follow m.counter; words = with_word m.words a v })
 store_word rd a v old m aligned there =
     let base : a - 0 ≡ a = omega arith in

@@ -17,7 +17,7 @@ use Rattle.cm_gen.specs.Standing.{Frame, used, slots_here}
 use Rattle.cm_gen.specs.FrameWord.{temporary_number, IsOwnNumber, pointer_of, word_address, AreFrames, Holds, HasTemporary, Kept, HasOwn}
 use Rattle.cm_gen.specs.Formed.{HasRoom, RestFits}
 use Rattle.cm_gen.specs.StandsFor.{Spot, ExactAt}
-use Rattle.cm_gen.proofs.MappedWordLaw.{with_word_same}
+use Rattle.cm_gen.proofs.MappedWordLaw.{with_word_same, own_reads}
 use Rattle.cm_gen.proofs.PatternLaw.{Sets, load_slot_runs, store_slot_runs}
 use Rattle.cm_gen.proofs.FrameWordLaw.{slots_top, temporary_word, temporary_at_offset, temporary_mapped, holds_own, own_put, kept_temporary}
 use Rattle.cm_gen.proofs.BaseLaw.{IsCodeAt, IsAtBase}
@@ -100,7 +100,7 @@ module _ (program : Program) (page : ℕ) where
         let o = temporary_offset (slots_here program (f ∷ calls)) j in
         let off = temporary_at_offset program page f calls frames j count shape room less in
         let below = here.below in
-        load_slot_runs code r o (temporary_address f calls frames j) v m nonzero other (subst (λ p. p < 2 ^ 32) (sym pointer) off.fits) (ap (λ p. offset p o) pointer ∙ off.address) off.aligned there (omega (arith, below)) here.there
+        load_slot_runs code r o (temporary_address f calls frames j) v m nonzero other (subst (λ p. p < 2 ^ 32) (sym pointer) off.fits) (ap (λ p. offset p o) pointer ∙ off.address) off.aligned (own_reads _ v there) (omega (arith, below)) here.there
 
 -- what a machine that stands for a state has for the code within its function
 pub at_frame : (program : Program) (form : Form) (page : ℕ) (input : List ℤ) (code : Code) (spot : Spot) (left : ℕ) (c : Control) (h : Stack) (m : Machine) → ExactAt program form page input code spot left c h m

@@ -1,5 +1,5 @@
 -- The laws of what writes a variable: assignments, updates and declared scalars.
-use Rattle.std.proofs.Common.{◌≡◌, ℕ, ◌+◌, ◌*◌, List, [], ◌∷◌, ◌++◌, length, None, Some, refl, sym, ap, ◌∙◌, subst, arith, length-append}
+use Rattle.std.proofs.Common.{◌≡◌, ℕ, ◌+◌, ◌*◌, List, [], ◌∷◌, ◌++◌, length, None, Some, refl, ap, ◌∙◌, subst, arith, length-append}
 use Rattle.std.specs.Prelude.{ℤ, FitsSigned, slice_get}
 use Rattle.std.specs.Int.{w32}
 use Rattle.cm_isa.specs.declared.convention.TheConstants as reg
@@ -9,7 +9,8 @@ use Rattle.cm_syntax.specs.declared.stmt.Slot.{Slot}
 use Rattle.cm_syntax.specs.declared.stmt.Slot.TheVariants as slot
 use Rattle.cm_syntax.specs.declared.stmt.Program.{Program}
 use Rattle.cm_syntax.specs.Operator.{binary_value}
-use Rattle.cm_syntax.specs.Stack.{absent, present, Stack}
+use Rattle.cm_syntax.specs.Cell.{value_in}
+use Rattle.cm_syntax.specs.Stack.{Stack}
 use Rattle.cm_syntax.specs.Rest.{Item, assign, update, Hand, holds, control}
 use Rattle.cm_syntax.specs.Step.{slots_in, write_step, item_step}
 use Rattle.cm_gen.specs.declared.form.Form.{Form}
@@ -52,10 +53,10 @@ module _ (program : Program) (form : Form) (page limit : ℕ) (input : List ℤ)
         leads_on program form page input code ran.0 ran.1 ran.2 ran.3)
 
     -- behind the old word comes the operator, and then the store
-    update_by : (s : ℕ) (o : Op) → slice_get (slots_here program (f ∷ calls)) s ≡ Some slot.Scalar → RestFits program page k (f ∷ calls) → ((d t i : ℕ) (w : ℤ) → h.words d t i ≡ present w → FitsSigned w32 w)
+    update_by : (s : ℕ) (o : Op) → slice_get (slots_here program (f ∷ calls)) s ≡ Some slot.Scalar → RestFits program page k (f ∷ calls) → ((d t i : ℕ) (w : ℤ) → value_in (h.words d t i) ≡ Some w → FitsSigned w32 w)
         → exact (update s o ∷ k) → place (update s o ∷ k)
         → LeadsFrom program form page input code spot left (f ∷ calls) h (write_step (control (f ∷ calls) account (holds v) (update s o ∷ k)) h (length calls) s 0 (Some o) v k) m
-    update_by s o kind fits small x here = by_present program form page input code (h.words (length calls) s 0) _ (λ old is.
+    update_by s o kind fits small x here = by_held program form page input code (h.words (length calls) s 0) _ (λ some. by_present program form page input code (h.words (length calls) s 0) _ (λ old is.
         let slots = slots_here program (f ∷ calls) in
         let offset_is = slot_offset slots s in
         let loads = load_slot reg.LEFT offset_is in
@@ -80,7 +81,7 @@ module _ (program : Program) (form : Form) (page limit : ℕ) (input : List ℤ)
         let t = second.1 in
         let does2 = second.3 in
         let later : SameRegisters m.registers t.registers = same_after same (same_sets refl refl refl refl refl does2) in
-        let last = puts_scalar program form page input code x k s reg.VALUE w t kind (λ gone. not_present (sym gone ∙ is)) later (does2.words ∙ does.words) refl does2.value
+        let last = puts_scalar program form page input code x k s reg.VALUE w t kind some later (does2.words ∙ does.words) refl does2.value
         (code_back code (operator_code o) puts does2.counter behind)
         (let c1 = does.counter in let c2 = does2.counter in let e : m.counter + 4 * length (loads ++ (operator_code o ++ puts)) ≡ t.counter + 4 * length puts = omega (arith, c1, c2, size, sized) in
         subst (LeadsTo code next) e (straight_end code (loads ++ (operator_code o ++ puts)) next m.counter here.2))
@@ -89,10 +90,7 @@ module _ (program : Program) (form : Form) (page limit : ℕ) (input : List ℤ)
         (comes_on code (length loads) (second.0 + last.0) m n last.1 first.1 (comes_on code second.0 last.0 n t last.1 second.2 last.2)) last.3)
         (λ result divides_is.
         let second = operator_traps code n zero_is old v (small (length calls) s 0 old is) here.1 does.value value o result divides_is (code_front code (operator_code o) puts behind) in
-        leads_to program form page input code (length loads + second.0) second.1 (comes_on code (length loads) second.0 m n second.1 first.1 second.2) (record { there = second.3; number_is = second.4 }, second.5 ∙ same.ticks ∙ x.left_is)))
-      where
-        not_present : {z : ℤ} → absent ≡ present z → ⊥
-        not_present e = cc
+        leads_to program form page input code (length loads + second.0) second.1 (comes_on code (length loads) second.0 m n second.1 first.1 second.2) (record { there = second.3; number_is = second.4 }, second.5 ∙ same.ticks ∙ x.left_is))))
 
   pub assign_law : (s : ℕ) (spot : Spot) (left : ℕ) (calls : List ℕ) (account : ℕ) (hand : Hand) (k : List Item) (h : Stack) (m : Machine) → IsNoCall program page limit hand
       → Formed program page limit (control calls account hand (assign s ∷ k)) h

@@ -1,13 +1,14 @@
 -- What a store of a value does to a state that a machine stands for.
-use Rattle.std.proofs.Common.{◌≡◌, ℕ, ◌+◌, ◌*◌, ◌^◌, ◌<◌, List, [], ◌∷◌, length, Option, Some, refl, sym, ap, ◌∙◌, subst, arith, inr}
+use Rattle.std.proofs.Common.{◌≡◌, ℕ, ◌+◌, ◌*◌, ◌^◌, ◌<◌, List, [], ◌∷◌, length, Some, refl, sym, ap, ◌∙◌, subst, arith, inr}
 use Rattle.std.specs.Prelude.{Bool, true, false, ◌==◌, if◌then◌else◌, ℤ, slice_get}
 use Rattle.cm_isa.specs.declared.convention.TheConstants as reg
 use Rattle.cm_isa.specs.Alu.{offset}
-use Rattle.cm_isa.specs.Machine.{Machine, Mapped, Code, with_word}
+use Rattle.cm_isa.specs.Machine.{Machine, Mapped, Code, with_word, writable, Stored, reads}
 use Rattle.cm_isa.specs.Run.{ComesTo}
 use Rattle.cm_syntax.specs.declared.stmt.Slot.TheVariants as slot
 use Rattle.cm_syntax.specs.declared.stmt.Program.{Program}
-use Rattle.cm_syntax.specs.Stack.{Cell, absent, unset, present, Stack, write_word}
+use Rattle.cm_syntax.specs.Cell.{Cell, value_in, may_write}
+use Rattle.cm_syntax.specs.Stack.{Stack, write_word}
 use Rattle.cm_syntax.specs.Rest.{Item, Hand, idle, control}
 use Rattle.cm_syntax.specs.Step.{top}
 use Rattle.cm_meaning.specs.Activation.{end_count}
@@ -20,13 +21,14 @@ use Rattle.cm_gen.specs.FrameWord.{bits, IsPlace, word_number, temporary_number,
 use Rattle.cm_gen.specs.Formed.{HasRoom, RestFits}
 use Rattle.cm_gen.specs.Standing.{LeadsTo, Frame, slots_here, Coded}
 use Rattle.cm_gen.specs.StandsFor.{Spot, ExactAt}
-use Rattle.cm_gen.proofs.MappedWordLaw.{some_of}
+use Rattle.cm_gen.proofs.MappedWordLaw.{own_of}
 use Rattle.cm_gen.proofs.PatternLaw.{Sets, load_slot_runs, store_slot_runs}
 use Rattle.cm_gen.proofs.StateLaw.{SameRegisters, same_puts, same_after, exact_with}
 use Rattle.cm_gen.proofs.FrameWordLaw.{slots_top, slot_at_offset, temporary_word, temporary_at_offset, temporary_mapped, holds_own, kept_lasts, kept_place, own_put}
-use Rattle.cm_gen.proofs.CellLaw.{own_place, own_cell, holds_word}
+use Rattle.cm_gen.proofs.CellLaw.{own_place, own_cell, holds_word, has_value, cell_writable}
 use Rattle.cm_gen.proofs.DeeperLaw.{same_row}
 use Rattle.cm_gen.proofs.BaseLaw.{IsCodeAt}
+use Rattle.cm_syntax.proofs.CellLaw.{map_write}
 
 -- a store has an instruction
 pub store_some : (r : ℕ) (o : ℤ) → 0 < length (store_slot r o)
@@ -37,14 +39,12 @@ store_some r o = by_near (is_near o)
     by_near false = omega arith
 
 module _ (program : Program) (page : ℕ) where
-  -- a word that is held is mapped
-  has_some : (c : Cell ℤ) (found : Option ℕ) → HasCell program page (value_cell program page c) found → (c ≡ absent → ⊥) → (old : ℕ) × (found ≡ Some old)
-  has_some absent found h some = absurd (some refl)
-  has_some unset found h some = some_of found h
-  has_some (present v) found h some = (bits v, h)
+  -- a word that may be written is mapped
+  has_some : (c : Cell ℤ) (found : Stored) → HasCell program page (value_cell program page c) found → may_write c ≡ true → (old : ℕ) × (found ≡ writable old)
+  has_some c found h some = own_of found (cell_writable program page (value_cell program page c) found (map_write bits c ∙ some) h)
 
   pub held_word : (calls : List ℕ) (frames : List Frame) (h : Stack) (w : Mapped) (d s i : ℕ) → Holds program page calls frames h w → d < length calls → i < row_words (slice_get (slots_at program calls d) s)
-      → (h.words d s i ≡ absent → ⊥) → (old : ℕ) × (w (word_address frames d (word_number (slots_at program calls d) s i)) ≡ Some old)
+      → may_write (h.words d s i) ≡ true → (old : ℕ) × (w (word_address frames d (word_number (slots_at program calls d) s i)) ≡ writable old)
   held_word calls frames h w d s i holds deep within some =
       let there = holds d s i deep (own_place (slots_at program calls d) s i within) in
       has_some (h.words d s i) (w (word_address frames d (word_number (slots_at program calls d) s i)))
@@ -52,10 +52,10 @@ module _ (program : Program) (page : ℕ) where
 
   -- a value that is present is in its word
   pub held_value : (calls : List ℕ) (frames : List Frame) (h : Stack) (w : Mapped) (d s i : ℕ) (v : ℤ) → Holds program page calls frames h w → d < length calls → i < row_words (slice_get (slots_at program calls d) s)
-      → h.words d s i ≡ present v → w (word_address frames d (word_number (slots_at program calls d) s i)) ≡ Some (bits v)
+      → value_in (h.words d s i) ≡ Some v → reads (w (word_address frames d (word_number (slots_at program calls d) s i))) ≡ Some (bits v)
   held_value calls frames h w d s i v holds deep within is =
-      subst (λ c. HasCell program page c (w (word_address frames d (word_number (slots_at program calls d) s i)))) (own_cell program page calls frames h d s i within ∙ ap (value_cell program page) is)
-      (holds d s i deep (own_place (slots_at program calls d) s i within))
+      has_value program page (h.words d s i) v (w (word_address frames d (word_number (slots_at program calls d) s i))) is
+      (subst (λ c. HasCell program page c (w (word_address frames d (word_number (slots_at program calls d) s i)))) (own_cell program page calls frames h d s i within) (holds d s i deep (own_place (slots_at program calls d) s i within)))
 
   -- what is kept speaks of the stack's references alone
   pub kept_stack : (k : List Item) (calls : List ℕ) (frames : List Frame) (h g : Stack) (w : Mapped) → RestFits program page k calls → AreFrames program page calls frames → h.references ≡ g.references
@@ -87,7 +87,7 @@ module _ (program : Program) (form : Form) (page : ℕ) (input : List ℤ) (code
   -- a register takes a scalar of the running function
   pub loads_scalar : {spot : Spot} {left f : ℕ} {calls : List ℕ} {account : ℕ} {hand : Hand} {j : List Item} {h : Stack} {m : Machine}
       (x : ExactAt program form page input code spot left (control (f ∷ calls) account hand j) h m) (s r : ℕ) (v : ℤ)
-      → slice_get (slots_here program (f ∷ calls)) s ≡ Some slot.Scalar → h.words (length calls) s 0 ≡ present v → (r == reg.ZERO) ≡ false → (reg.FP == r) ≡ false
+      → slice_get (slots_here program (f ∷ calls)) s ≡ Some slot.Scalar → value_in (h.words (length calls) s 0) ≡ Some v → (r == reg.ZERO) ≡ false → (reg.FP == r) ≡ false
       → IsCodeAt code m.counter (load_slot r (slot_offset (slots_here program (f ∷ calls)) s))
       → (t : Machine) × ComesTo code (length (load_slot r (slot_offset (slots_here program (f ∷ calls)) s))) m t × Sets r (bits v) (4 * length (load_slot r (slot_offset (slots_here program (f ∷ calls)) s))) m t
   loads_scalar {spot = spot} {f = f} {calls = calls} {h = h} {m = m} x s r v kind is nonzero other there =
@@ -100,12 +100,12 @@ module _ (program : Program) (form : Form) (page : ℕ) (input : List ℤ) (code
       let address = ap (λ l. word_address spot.frames (length calls) (word_number l s 0)) own in
       let below = there.below in
       load_slot_runs code r o (word_address spot.frames (length calls) (word_number slots s 0)) (bits v) m nonzero other (subst (λ p. p < 2 ^ 32) (sym x.pointer_is) at.fits) (ap (λ p. offset p o) x.pointer_is ∙ at.address) at.aligned
-      (ap m.words (sym address) ∙ held_value program page (f ∷ calls) spot.frames h m.words (length calls) s 0 v x.slots (omega arith) within is) (omega (arith, below)) there.there
+      (ap (λ a. reads (m.words a)) (sym address) ∙ held_value program page (f ∷ calls) spot.frames h m.words (length calls) s 0 v x.slots (omega arith) within is) (omega (arith, below)) there.there
 
   -- a register goes into a scalar of the running function, behind instructions that changed no word
   pub puts_scalar : {spot : Spot} {left f : ℕ} {calls : List ℕ} {account : ℕ} {hand : Hand} {j : List Item} {h : Stack} {m : Machine}
       (x : ExactAt program form page input code spot left (control (f ∷ calls) account hand j) h m) (l : List Item) (s r : ℕ) (v : ℤ) (n : Machine)
-      → slice_get (slots_here program (f ∷ calls)) s ≡ Some slot.Scalar → (h.words (length calls) s 0 ≡ absent → ⊥)
+      → slice_get (slots_here program (f ∷ calls)) s ≡ Some slot.Scalar → may_write (h.words (length calls) s 0) ≡ true
       → SameRegisters m.registers n.registers → n.words ≡ m.words → (r == reg.HELP) ≡ false → n.registers r ≡ bits v
       → IsCodeAt code n.counter (store_slot r (slot_offset (slots_here program (f ∷ calls)) s))
       → LeadsTo code (Coded program form page code l (f ∷ calls) spot.frames) (n.counter + 4 * length (store_slot r (slot_offset (slots_here program (f ∷ calls)) s)))

@@ -9,7 +9,8 @@ use Rattle.cm_syntax.specs.declared.stmt.Program.{Program}
 use Rattle.cm_syntax.specs.Fault.{IsSoundProgram}
 use Rattle.cm_syntax.specs.Frame.{slots_words, temporaries, arguments_words, arguments_temporaries, optional_temporaries, items_temporaries, statement_temporaries, statements_temporaries, body_temporaries}
 use Rattle.cm_syntax.specs.Label.{silent, ticks, prints, spawns, syncs}
-use Rattle.cm_syntax.specs.Stack.{Cell, absent, unset, present, Stack, Destination, Argument, word, slice}
+use Rattle.cm_syntax.specs.Cell.{Cell, value_in, CellSum}
+use Rattle.cm_syntax.specs.Stack.{Stack, Destination, Argument, word, slice}
 use Rattle.cm_syntax.specs.Rest.{Purpose, called, spawned, Item, evaluate, right, apply, prefix, both, either, truth, element, read, arguments, pass, take_back, deliver, perform, sequence, body, declare, locate, store, branch, turn, test, part, tick, join, end, Hand, idle, holds, returned, entering, framing, Control}
 use Rattle.cm_syntax.specs.Step.{Move, inside}
 use Rattle.cm_meaning.specs.Activation.{IsSettled}
@@ -32,11 +33,9 @@ pub record Runs (program : Program) (page limit : ℕ) (input : List ℤ) : Type
 
 -- ---- a strand's state as a part of the elision's
 
--- one cell is absent, or it is the same as another
+-- one cell makes another one together with some third
 abbrev pub IsPart : {A : Type 0} → Cell A → Cell A → Type 0
-IsPart absent b = ⊤
-IsPart unset b = b ≡ unset
-IsPart (present v) b = b ≡ present v
+IsPart {A = A} a c = (b : Cell A) × CellSum a b c
 
 -- a stack holds what another one does, or less
 pub record IsPartOf (h whole : Stack) : Type 0 where
@@ -195,7 +194,7 @@ module _ (program : Program) (page : ℕ) where
       pub typed : TypedState program gives (within context c) whole
       pub is_part : IsPartOf h whole
       pub settled : IsSettled c h
-      pub small : (d s i : ℕ) (v : ℤ) → h.words d s i ≡ present v → FitsSigned w32 v
+      pub small : (d s i : ℕ) (v : ℤ) → value_in (h.words d s i) ≡ Some v → FitsSigned w32 v
       pub words : RestHasWords c.rest
       pub balance : c.account + taken program page c.calls ≡ limit
       pub fits : RestFits c.rest c.calls

@@ -1,14 +1,15 @@
 -- The words of frames. A frame's words are numbered from 1 downwards from its address: the return address, the caller's
 -- frame pointer, the slots, the temporaries. Word n of a frame is 4 n bytes below its address.
-use Rattle.std.specs.Prelude.{◌≡◌, ℕ, zero, suc, ◌+◌, ◌*◌, ◌-◌, ◌%◌, ◌<◌, ◌≤◌, ◌==◌, ◌⊎◌, ⊤, true, if◌then◌else◌, ℤ, Option, None, Some, IsSome, FitsSigned, List, [], ◌∷◌, length, slice_get}
+use Rattle.std.specs.Prelude.{◌≡◌, ℕ, zero, suc, ◌+◌, ◌*◌, ◌-◌, ◌%◌, ◌<◌, ◌≤◌, ◌==◌, ◌⊎◌, ⊤, true, if◌then◌else◌, ℤ, Option, None, Some, FitsSigned, List, [], ◌∷◌, length, slice_get}
 use Rattle.std.specs.Int.{w32, cast_unsigned}
-use Rattle.cm_isa.specs.Machine.{Mapped}
+use Rattle.cm_isa.specs.Machine.{Mapped, writable, IsWritable, Stored, reads}
 use Rattle.cm_syntax.specs.declared.stmt.Slot.{Slot}
 use Rattle.cm_syntax.specs.declared.stmt.Slot.TheVariants as slot
 use Rattle.cm_syntax.specs.declared.stmt.Function.{Function}
 use Rattle.cm_syntax.specs.declared.stmt.Program.{Program}
 use Rattle.cm_syntax.specs.Frame.{slot_words, slots_words, frame_words}
-use Rattle.cm_syntax.specs.Stack.{Cell, absent, unset, present, Reference, Stack, Argument, word, slice}
+use Rattle.cm_syntax.specs.Cell.{Cell, absent, unset, present, shared, value_in, map_cell}
+use Rattle.cm_syntax.specs.Stack.{Reference, Stack, Argument, word, slice}
 use Rattle.cm_syntax.specs.Rest.{Item, apply, arguments, pass, store, end}
 use Rattle.cm_syntax.specs.Step.{top, scalar_slice, call_bytes_in}
 use Rattle.cm_meaning.specs.TypedState.{slots_at}
@@ -106,17 +107,16 @@ module _ (program : Program) (page : ℕ) where
   reference_address calls frames r = word_address frames r.depth (word_number (slots_at program calls r.depth) r.slot r.start)
 
   -- what stands in the two words of a slice
+  abbrev pub slice_value : (calls : List ℕ) → List Frame → Reference → (i : ℕ) → ℕ
+  slice_value calls frames r zero = reference_address calls frames r
+  slice_value calls frames r (suc i) = r.length
+
   abbrev pub slice_cell : (calls : List ℕ) → List Frame → Cell Reference → (i : ℕ) → Cell ℕ
-  slice_cell calls frames absent i = absent
-  slice_cell calls frames unset i = unset
-  slice_cell calls frames (present r) zero = present (reference_address calls frames r)
-  slice_cell calls frames (present r) (suc i) = present r.length
+  slice_cell calls frames c i = map_cell (λ r. slice_value calls frames r i) c
 
   -- what stands in a word
   abbrev pub value_cell : Cell ℤ → Cell ℕ
-  value_cell absent = absent
-  value_cell unset = unset
-  value_cell (present v) = present (bits v)
+  value_cell c = map_cell bits c
 
   -- what stands in a word of a slot, by the slot's kind
   abbrev pub cell_in : Option Slot → (calls : List ℕ) → List Frame → Stack → (d s i : ℕ) → Cell ℕ
@@ -127,10 +127,11 @@ module _ (program : Program) (page : ℕ) where
   cell_at calls frames h d s i = cell_in (slice_get (slots_at program calls d) s) calls frames h d s i
 
   -- the word that is mapped has what the cell says
-  abbrev pub HasCell : Cell ℕ → Option ℕ → Type 0
+  abbrev pub HasCell : Cell ℕ → Stored → Type 0
   HasCell absent found = ⊤
-  HasCell unset found = IsSome found
-  HasCell (present n) found = found ≡ Some n
+  HasCell unset found = IsWritable found
+  HasCell (present n) found = found ≡ writable n
+  HasCell (shared p n) found = reads found ≡ Some n
 
   -- The words of the slots of live frames are where they belong. Of absent words nothing is said.
   abbrev pub Holds : (calls : List ℕ) → List Frame → Stack → Mapped → Type 0
@@ -152,7 +153,7 @@ module _ (program : Program) (page : ℕ) where
 
   -- temporary j of the running function has this word
   abbrev pub HasTemporary : (calls : List ℕ) → List Frame → Mapped → (j v : ℕ) → Type 0
-  HasTemporary calls frames w j v = w (word_address frames (top calls) (temporary_number (slots_here program calls) j)) ≡ Some v
+  HasTemporary calls frames w j v = w (word_address frames (top calls) (temporary_number (slots_here program calls) j)) ≡ writable v
 
   -- the known arguments, last first, are in the temporaries from j on: a value in one, a slice in two
   abbrev pub HasArguments : (calls : List ℕ) → List Frame → Mapped → (j : ℕ) → List Argument → Type 0
@@ -164,7 +165,7 @@ module _ (program : Program) (page : ℕ) where
   -- the element that waits for its value has its address in temporary 0
   pub record HasElement (calls : List ℕ) (frames : List Frame) (h : Stack) (w : Mapped) (a i : ℕ) : Type 0 where
     pub row : Reference
-    pub row_is : row_of calls h a ≡ present row
+    pub row_is : value_in (row_of calls h a) ≡ Some row
     pub address : HasTemporary calls frames w 0 (reference_address calls frames row + 4 * i)
 
   -- The operands and arguments that a rest knows are in their temporaries, and the saved words of the calls that it ends
@@ -175,14 +176,14 @@ module _ (program : Program) (page : ℕ) where
   Kept (arguments u f ws row ∷ k) calls frames h w = HasArguments calls frames w (used k) ws × Kept k calls frames h w
   Kept (pass u f ws row ∷ k) calls frames h w = HasArguments calls frames w (used k) ws × Kept k calls frames h w
   Kept (store a i o ∷ k) calls frames h w = HasElement calls frames h w a i × Kept k calls frames h w
-  Kept (end ∷ k) (f ∷ calls) (F ∷ frames) h w = (w (F.address - 4) ≡ Some F.back) × (w (F.address - 8) ≡ Some (pointer_of frames)) × Kept k calls frames h w
+  Kept (end ∷ k) (f ∷ calls) (F ∷ frames) h w = (w (F.address - 4) ≡ writable F.back) × (w (F.address - 8) ≡ writable (pointer_of frames)) × Kept k calls frames h w
   Kept (end ∷ k) _ _ h w = ⊥
   Kept (_ ∷ k) calls frames h w = Kept k calls frames h w
 
   -- the saved words and the temporaries of a call that the rest ends are mapped
   abbrev pub HasOwn : (ends : ℕ) → (calls : List ℕ) → List Frame → Mapped → Type 0
   HasOwn ends calls frames w = (d n : ℕ) → d < length calls → length calls ≤ d + ends → 0 < n → n ≤ words_at calls d
-      → IsOwnNumber (slots_at program calls d) n → IsSome (w (word_address frames d n))
+      → IsOwnNumber (slots_at program calls d) n → IsWritable (w (word_address frames d n))
 
   -- The words that a state speaks of: those of slots that aren't absent, and the saved words and temporaries of the calls that
   -- its rest ends. It reads and writes no other word, but those of a new frame.

@@ -1,9 +1,9 @@
 -- When a machine stands for a state of the meaning: exactly, or within the instructions of the state's next step. It is
 -- said over a partial map of words, so that one hart, strands and threads have the same laws.
-use Rattle.std.specs.Prelude.{◌≡◌, ℕ, zero, suc, ◌+◌, ◌-◌, ◌%◌, ◌^◌, ◌<◌, ◌≤◌, ◌==◌, ◌⊎◌, ⊤, false, if◌then◌else◌, ℤ, pos, None, Some, IsSome, FitsSigned, List, [], ◌∷◌, length, slice_get}
+use Rattle.std.specs.Prelude.{◌≡◌, ℕ, zero, suc, ◌+◌, ◌-◌, ◌%◌, ◌^◌, ◌<◌, ◌≤◌, ◌==◌, ◌⊎◌, ⊤, false, if◌then◌else◌, ℤ, pos, None, Some, FitsSigned, List, [], ◌∷◌, length, slice_get}
 use Rattle.std.specs.Int.{w32}
 use Rattle.cm_isa.specs.Operation.{ecall}
-use Rattle.cm_isa.specs.Machine.{Machine, Mapped, Code}
+use Rattle.cm_isa.specs.Machine.{Machine, Mapped, Code, IsWritable}
 use Rattle.cm_isa.specs.Run.{ComesTo, Extends, replied_machine}
 use Rattle.cm_isa.specs.declared.convention.TheConstants as reg
 use Rattle.cm_syntax.specs.declared.stmt.Function.{Function}
@@ -140,7 +140,7 @@ module _ (program : Program) (form : Form) (page : ℕ) (input : List ℤ) (code
     pub store : Stands code m.counter (sw reg.ZERO reg.SP (pos 0))
     pub low_end : m.registers reg.SP ≡ old.low - bytes_of program page f
     pub goes_on : (w : Mapped) → Extends m.words w
-        → ((a : ℕ) → a % 4 ≡ 0 → old.low - bytes_of program page f ≤ a → a < old.low → IsSome (w a))
+        → ((a : ℕ) → a % 4 ≡ 0 → old.low - bytes_of program page f ≤ a → a < old.low → IsWritable (w a))
         → Reaches old left c h (with_words m w)
 
   -- The machine at which a silent step arrives: it stands for the next state; or it is at a service that replies with a
@@ -204,7 +204,7 @@ module _ (program : Program) (form : Form) (page : ℕ) (input : List ℤ) (code
   -- where the machine is at the first store into a new frame, the words of the frame are mapped
   abbrev pub MapsFrame : Machine → Type 0
   MapsFrame m = (old : Spot) (left f : ℕ) (c : Control) (h : Stack) → Opens old left f c h m
-      → (a : ℕ) → a % 4 ≡ 0 → old.low - bytes_of program page f ≤ a → a < old.low → IsSome (m.words a)
+      → (a : ℕ) → a % 4 ≡ 0 → old.low - bytes_of program page f ≤ a → a < old.low → IsWritable (m.words a)
 
   -- A machine stands for a state that others pass to, or that state is one that no rule has.
   pub record GoesOn (left : ℕ) (c : Control) (h : Stack) (next : Machine) : Type 0 where

@@ -61,7 +61,7 @@ jump_tells x x31 target c first = at (eqb_tells (target % 4) 0)
     at (inr h) = rw h.0 h.1
 
 -- each action
-change_tells : (memory : ℕ → Cell) (x : Action) (x31 pc : ℕ) → Tells x x31 (halt_of (action_change memory x pc).next x31)
+change_tells : (memory : ℕ → Cell) (x : Action) (x31 pc : ℕ) → Tells x x31 (halt_of (action_change memory memory x pc).next x31)
 change_tells memory (Sets value) x31 pc = tt
 change_tells memory Passes x31 pc = tt
 change_tells memory (Goes target) x31 pc = jump_tells (Goes target) x31 target _ tt

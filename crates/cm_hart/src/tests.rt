@@ -20,13 +20,14 @@ struct Memory {
 
 impl Words for Memory {
     ghost use Rattle.std.specs.Prelude.{ℕ, ◌-◌, ◌/◌, nat_lt, if◌then◌else◌, length, slice_index};
+    ghost use Rattle.cm_isa.specs.View.{full_where};
     ghost use Rattle.cm_isa.specs.declared.memory.Shown.TheVariants.{Place, Page, Outside};
 
     ghost view = { λ m. record {
       shown = λ a. if nat_lt a 256 then Outside
           else (if nat_lt a 272 then Place ((a - 256) / 4)
           else (if nat_lt a 288 then Page else Outside));
-      allowed = λ p. nat_lt p 4;
+      access = λ p. full_where (nat_lt p 4);
       word_at = slice_index m.words;
     } };
 
@@ -132,12 +133,13 @@ struct Paged {
 
 impl Words for Paged {
     ghost use Rattle.std.specs.Prelude.{ℕ, List, ◌+◌, ◌*◌, ◌/◌, ◌%◌, nat_lt, if◌then◌else◌, length, slice_index};
+    ghost use Rattle.cm_isa.specs.View.{full_where};
     ghost use Rattle.cm_isa.specs.declared.memory.Shown.TheVariants.{Place, Page};
 
     ghost view = { λ m. record {
       shown = λ a. if nat_lt (a / 16) (length m.pages.items)
           then Place (slice_index m.pages.items (a / 16) * 4 + a / 4 % 4) else Page;
-      allowed = λ p. nat_lt p 16;
+      access = λ p. full_where (nat_lt p 16);
       word_at = slice_index m.words;
     } };
 

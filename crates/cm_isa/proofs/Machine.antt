@@ -6,10 +6,10 @@ use Rattle.std.proofs.lemmas.Option.{none-some, same_Some}
 use Rattle.std.specs.Prelude.{Bool, true, false, ◌==◌, if◌then◌else◌, ◌⊎◌, slice_index, slice_set, IsTrue}
 use Rattle.cm_isa.specs.Operation.{Operation}
 use Rattle.cm_isa.specs.Register.{put, put_result, with_register, with_result}
-use Rattle.cm_isa.specs.View.{View, with_place}
+use Rattle.cm_isa.specs.View.{View, Access, no_access, read_access, full_access, may_load, may_store, with_place}
 use Rattle.cm_isa.specs.Action.{Size, Action, Sets, Passes, Goes, Links, Loads, Stores, Serves, Breaks, action_at}
 use Rattle.cm_isa.specs.Effect.{Change, goes_on, stops, load_change, store_change, action_change, cell_at, shown_cell, put_write, outcome, is_aligned, stored_word, MayAccess}
-use Rattle.cm_isa.specs.Machine.{Machine, with_word, with_write, word_address, word_cell, mapped_cell, next_machine, machine_after, allowed_word, shown_word, view_words, machine_of, IsMap}
+use Rattle.cm_isa.specs.Machine.{Machine, with_word, with_write, word_address, word_cell, mapped_cell, next_machine, machine_after, Stored, writable, reads, writes, readable_words, writable_words, stored_in, shown_word, view_words, machine_of, IsMap}
 use Rattle.cm_isa.specs.declared.memory.Shown.{Shown}
 use Rattle.cm_isa.specs.declared.memory.Shown.TheVariants as shown
 use Rattle.cm_isa.specs.declared.execution.FaultKind.{FaultKind}
@@ -52,39 +52,85 @@ word_address_aligned a = omega arith
 word_address_whole : (a : ℕ) → a % 4 ≡ 0 → word_address a ≡ a
 word_address_whole a h = omega arith
 
--- an address shows an allowed place, whose word the machine has
+-- what a view lets the machine read and write, and read
+abbrev view_own : View → ℕ → Option ℕ
+view_own view = writable_words (view_words view)
+
+abbrev view_readable : View → ℕ → Option ℕ
+view_readable view = readable_words (view_words view)
+
+-- an address shows an allowed place, whose word the machine has to be read
 record Touches (view : View) (address place : ℕ) : Type 0 where
   pub shows : view.shown address ≡ shown.Place place
-  pub allows : view.allowed place ≡ true
-  pub mapped : view_words view (word_address address) ≡ Some (view.word_at place)
+  pub allows : may_load (view.access place) ≡ true
+  pub mapped : view_readable view (word_address address) ≡ Some (view.word_at place)
+
+-- and to be written
+record Owns (view : View) (address place : ℕ) : Type 0 where
+  pub shows : view.shown address ≡ shown.Place place
+  pub allows : may_store (view.access place) ≡ true
+  pub mapped : view_own view (word_address address) ≡ Some (view.word_at place)
 
 same_place : (p q : ℕ) → shown.Place p ≡ shown.Place q → q ≡ p
 same_place p q e = cc
 
-allowed_some : (b : Bool) (v w : ℕ) → allowed_word b v ≡ Some w → b ≡ true
-allowed_some true v w e = refl
-allowed_some false v w e = absurd (none-some w e)
+reads_stored : (c : Access) (v w : ℕ) → reads (stored_in c v) ≡ Some w → may_load c ≡ true
+reads_stored no_access v w e = absurd (none-some w e)
+reads_stored read_access v w e = refl
+reads_stored full_access v w e = refl
 
--- what an address shows whose word is mapped
-touched_place : (view : View) (a w : ℕ) (s : Shown) → view.shown a ≡ s → shown_word s view ≡ Some w → (place : ℕ) × (view.shown a ≡ shown.Place place) × (view.allowed place ≡ true)
-touched_place view a w (shown.Place place) is e = (place, is, allowed_some (view.allowed place) (view.word_at place) w e)
-touched_place view a w shown.Page is e = absurd (none-some w e)
-touched_place view a w shown.Outside is e = absurd (none-some w e)
+writes_stored : (c : Access) (v w : ℕ) → writes (stored_in c v) ≡ Some w → may_store c ≡ true
+writes_stored no_access v w e = absurd (none-some w e)
+writes_stored read_access v w e = absurd (none-some w e)
+writes_stored full_access v w e = refl
 
-touches_shown : (view : View) → IsMap view → (a place : ℕ) → view.shown a ≡ shown.Place place → view.allowed place ≡ true → Touches view a place
+stored_reads : (c : Access) (v : ℕ) → may_load c ≡ true → reads (stored_in c v) ≡ Some v
+stored_reads no_access v e = cc
+stored_reads read_access v e = refl
+stored_reads full_access v e = refl
+
+stored_writes : (c : Access) (v : ℕ) → may_store c ≡ true → stored_in c v ≡ writable v
+stored_writes no_access v e = cc
+stored_writes read_access v e = cc
+stored_writes full_access v e = refl
+
+-- what an address shows whose word may be read, or written
+read_place : (view : View) (a w : ℕ) (s : Shown) → view.shown a ≡ s → reads (shown_word s view) ≡ Some w → (place : ℕ) × (view.shown a ≡ shown.Place place) × (may_load (view.access place) ≡ true)
+read_place view a w (shown.Place place) is e = (place, is, reads_stored (view.access place) (view.word_at place) w e)
+read_place view a w shown.Page is e = absurd (none-some w e)
+read_place view a w shown.Outside is e = absurd (none-some w e)
+
+own_place : (view : View) (a w : ℕ) (s : Shown) → view.shown a ≡ s → writes (shown_word s view) ≡ Some w → (place : ℕ) × (view.shown a ≡ shown.Place place) × (may_store (view.access place) ≡ true)
+own_place view a w (shown.Place place) is e = (place, is, writes_stored (view.access place) (view.word_at place) w e)
+own_place view a w shown.Page is e = absurd (none-some w e)
+own_place view a w shown.Outside is e = absurd (none-some w e)
+
+touches_shown : (view : View) → IsMap view → (a place : ℕ) → view.shown a ≡ shown.Place place → may_load (view.access place) ≡ true → Touches view a place
 touches_shown view map a place is allows =
     let test : (word_address a % 4 == 0) ≡ true = eq-eqb (word_address a % 4) 0 (word_address_aligned a) in
     let there : view.shown (word_address a) ≡ shown.Place place = sym (map.whole a) ∙ is in
-    record { shows = is; allows = allows; mapped = rw (test, there, allows) refl }
+    record { shows = is; allows = allows; mapped = rw (test, there) (stored_reads (view.access place) (view.word_at place) allows) }
 
-touches_mapped : (view : View) → IsMap view → (a w : ℕ) → view_words view (word_address a) ≡ Some w → (place : ℕ) × Touches view a place
+owns_shown : (view : View) → IsMap view → (a place : ℕ) → view.shown a ≡ shown.Place place → may_store (view.access place) ≡ true → Owns view a place
+owns_shown view map a place is allows =
+    let test : (word_address a % 4 == 0) ≡ true = eq-eqb (word_address a % 4) 0 (word_address_aligned a) in
+    let there : view.shown (word_address a) ≡ shown.Place place = sym (map.whole a) ∙ is in
+    record { shows = is; allows = allows; mapped = rw (test, there) (ap (λ (s : Stored). writes s) (stored_writes (view.access place) (view.word_at place) allows)) }
+
+touches_mapped : (view : View) → IsMap view → (a w : ℕ) → view_readable view (word_address a) ≡ Some w → (place : ℕ) × Touches view a place
 touches_mapped view map a w e =
     let test : (word_address a % 4 == 0) ≡ true = eq-eqb (word_address a % 4) 0 (word_address_aligned a) in
-    let there = touched_place view (word_address a) w (view.shown (word_address a)) refl (rw test at e) in
+    let there = read_place view (word_address a) w (view.shown (word_address a)) refl (rw test at e) in
     (there.0, touches_shown view map a there.0 (map.whole a ∙ there.1) there.2)
 
+owns_mapped : (view : View) → IsMap view → (a w : ℕ) → view_own view (word_address a) ≡ Some w → (place : ℕ) × Owns view a place
+owns_mapped view map a w e =
+    let test : (word_address a % 4 == 0) ≡ true = eq-eqb (word_address a % 4) 0 (word_address_aligned a) in
+    let there = own_place view (word_address a) w (view.shown (word_address a)) refl (rw test at e) in
+    (there.0, owns_shown view map a there.0 (map.whole a ∙ there.1) there.2)
+
 -- a word that is put in its place is put at its address
-words_put : (view : View) (a place x : ℕ) → IsMap view → Touches view a place → view_words (with_place view place x) ≡ with_word (view_words view) (word_address a) x
+words_put : (view : View) (a place x : ℕ) → IsMap view → Owns view a place → view_words (with_place view place x) ≡ with_word (view_words view) (word_address a) x
 words_put view a place x map touches = λ i b. at b i
   where
     after : View
@@ -114,8 +160,8 @@ words_put view a place x map touches = λ i b. at b i
       | inl h ↦
           let test : (word_address a % 4 == 0) ≡ true = eq-eqb (word_address a % 4) 0 (word_address_aligned a) in
           let here : (place == place) ≡ true = eq-eqb place place refl in
-          let right : with_word (view_words view) (word_address a) x b ≡ Some x = rw h.0 refl in
-          let left : view_words after (word_address a) ≡ Some x = rw (test, there, touches.allows, here) refl in
+          let right : with_word (view_words view) (word_address a) x b ≡ writable x = rw h.0 refl in
+          let left : view_words after (word_address a) ≡ writable x = rw (test, there, stored_writes (view.access place) (if place == place then x else view.word_at place) touches.allows, here) refl in
           ap (view_words after) h.1 ∙ left ∙ sym right
       | inr h ↦
           let right : with_word (view_words view) (word_address a) x b ≡ view_words view b = rw h.0 refl in
@@ -141,11 +187,11 @@ same_choice view true c d first second = first
 same_choice view false c d first second = second
 
 same_load : (view : View) (size : Size) (sign : Bool) (a place pc : ℕ) → Touches view a place
-    → SameChange view (load_change (mapped_cell (view_words view) a) size sign a pc) (load_change (cell_at view a) size sign a pc)
+    → SameChange view (load_change (mapped_cell (view_readable view) a) size sign a pc) (load_change (cell_at view a) size sign a pc)
 same_load view size sign a place pc touches = rw (touches.mapped, touches.shows) (same_goes view _ _)
 
-same_store : (view : View) (size : Size) (a value place pc : ℕ) → IsMap view → Touches view a place
-    → SameChange view (store_change (mapped_cell (view_words view) a) size a value pc) (store_change (cell_at view a) size a value pc)
+same_store : (view : View) (size : Size) (a value place pc : ℕ) → IsMap view → Owns view a place
+    → SameChange view (store_change (mapped_cell (view_own view) a) size a value pc) (store_change (cell_at view a) size a value pc)
 same_store view size a value place pc map touches = rw (touches.mapped, touches.shows) (record {
   same_result = refl;
   same_next = refl;
@@ -183,16 +229,21 @@ store_shown view shown.Outside size a value address pc e = absurd (fault_is_no_a
 
 module _ (view : View) (map : IsMap view) (pc : ℕ) where
   abbrev word_change : Action → Change
-  word_change asks = action_change (mapped_cell (view_words view)) asks pc
+  word_change asks = action_change (mapped_cell (view_readable view)) (mapped_cell (view_own view)) asks pc
 
   abbrev view_change : Action → Change
-  view_change asks = action_change (cell_at view) asks pc
+  view_change asks = action_change (cell_at view) (cell_at view) asks pc
 
   -- the word of an access that goes on is mapped
-  access_by_mapped : (size : Size) (a address : ℕ) (b : Bool) (c : Change) → ((e : c.next ≡ At address) → (w : ℕ) × (view_words view (word_address a) ≡ Some w))
+  access_by_mapped : (size : Size) (a address : ℕ) (b : Bool) (c : Change) → ((e : c.next ≡ At address) → (w : ℕ) × (view_readable view (word_address a) ≡ Some w))
       → (if b then c else stops (Fault faults.Align a)).next ≡ At address → (b ≡ true) × ((place : ℕ) × Touches view a place)
   access_by_mapped size a address true c found e = let word = found e in (refl, touches_mapped view map a word.0 word.1)
   access_by_mapped size a address false c found e = absurd (fault_is_no_address faults.Align a address e)
+
+  put_by_mapped : (size : Size) (a address : ℕ) (b : Bool) (c : Change) → ((e : c.next ≡ At address) → (w : ℕ) × (view_own view (word_address a) ≡ Some w))
+      → (if b then c else stops (Fault faults.Align a)).next ≡ At address → (b ≡ true) × ((place : ℕ) × Owns view a place)
+  put_by_mapped size a address true c found e = let word = found e in (refl, owns_mapped view map a word.0 word.1)
+  put_by_mapped size a address false c found e = absurd (fault_is_no_address faults.Align a address e)
 
   -- where the machine goes on, the view changes as its words do
   same_by_words : (asks : Action) (address : ℕ) → (word_change asks).next ≡ At address → SameChange view (word_change asks) (view_change asks)
@@ -201,10 +252,10 @@ module _ (view : View) (map : IsMap view) (pc : ℕ) where
   same_by_words (Goes t) address e = same_choice view (t % 4 == 0) _ _ (same_goes view _ _) (same_stop view _)
   same_by_words (Links t) address e = same_choice view (t % 4 == 0) _ _ (same_goes view _ _) (same_stop view _)
   same_by_words (Loads size sign a) address e =
-      let there = access_by_mapped size a address (is_aligned size a) _ (load_mapped (view_words view (word_address a)) size sign a address pc) e in
+      let there = access_by_mapped size a address (is_aligned size a) _ (load_mapped (view_readable view (word_address a)) size sign a address pc) e in
       rw there.0 (same_load view size sign a there.1.0 pc there.1.1)
   same_by_words (Stores size a v) address e =
-      let there = access_by_mapped size a address (is_aligned size a) _ (store_mapped (view_words view (word_address a)) size a v address pc) e in
+      let there = put_by_mapped size a address (is_aligned size a) _ (store_mapped (view_own view (word_address a)) size a v address pc) e in
       rw there.0 (same_store view size a v there.1.0 pc map there.1.1)
   same_by_words Serves address e = same_stop view _
   same_by_words Breaks address e = same_stop view _
@@ -216,20 +267,26 @@ module _ (view : View) (map : IsMap view) (pc : ℕ) where
   access_by_words (Goes t) address e = tt
   access_by_words (Links t) address e = tt
   access_by_words (Loads size sign a) address e =
-      let there = access_by_mapped size a address (is_aligned size a) _ (load_mapped (view_words view (word_address a)) size sign a address pc) e in
-      λ aligned place is. subst (λ p. IsTrue (view.allowed p)) (sym (same_place there.1.0 place (sym there.1.1.shows ∙ is))) there.1.1.allows
+      let there = access_by_mapped size a address (is_aligned size a) _ (load_mapped (view_readable view (word_address a)) size sign a address pc) e in
+      λ aligned place is. subst (λ p. IsTrue (may_load (view.access p))) (sym (same_place there.1.0 place (sym there.1.1.shows ∙ is))) there.1.1.allows
   access_by_words (Stores size a v) address e =
-      let there = access_by_mapped size a address (is_aligned size a) _ (store_mapped (view_words view (word_address a)) size a v address pc) e in
-      λ aligned place is. subst (λ p. IsTrue (view.allowed p)) (sym (same_place there.1.0 place (sym there.1.1.shows ∙ is))) there.1.1.allows
+      let there = put_by_mapped size a address (is_aligned size a) _ (store_mapped (view_own view (word_address a)) size a v address pc) e in
+      λ aligned place is. subst (λ p. IsTrue (may_store (view.access p))) (sym (same_place there.1.0 place (sym there.1.1.shows ∙ is))) there.1.1.allows
   access_by_words Serves address e = tt
   access_by_words Breaks address e = tt
 
   -- an access that is allowed and goes on
-  access_by_shown : (a address : ℕ) (b : Bool) (c : Change) → (IsTrue b → (place : ℕ) → view.shown a ≡ shown.Place place → IsTrue (view.allowed place))
+  access_by_shown : (a address : ℕ) (b : Bool) (c : Change) → (IsTrue b → (place : ℕ) → view.shown a ≡ shown.Place place → IsTrue (may_load (view.access place)))
       → (c.next ≡ At address → (place : ℕ) × (view.shown a ≡ shown.Place place)) → (if b then c else stops (Fault faults.Align a)).next ≡ At address
       → (b ≡ true) × ((place : ℕ) × Touches view a place)
   access_by_shown a address true c may found e = let at = found e in (refl, (at.0, touches_shown view map a at.0 at.1 (may refl at.0 at.1)))
   access_by_shown a address false c may found e = absurd (fault_is_no_address faults.Align a address e)
+
+  put_by_shown : (a address : ℕ) (b : Bool) (c : Change) → (IsTrue b → (place : ℕ) → view.shown a ≡ shown.Place place → IsTrue (may_store (view.access place)))
+      → (c.next ≡ At address → (place : ℕ) × (view.shown a ≡ shown.Place place)) → (if b then c else stops (Fault faults.Align a)).next ≡ At address
+      → (b ≡ true) × ((place : ℕ) × Owns view a place)
+  put_by_shown a address true c may found e = let at = found e in (refl, (at.0, owns_shown view map a at.0 at.1 (may refl at.0 at.1)))
+  put_by_shown a address false c may found e = absurd (fault_is_no_address faults.Align a address e)
 
   -- where the view goes on and may be access_by_mapped, its words change as it does
   same_by_view : (asks : Action) (address : ℕ) → MayAccess view asks → (view_change asks).next ≡ At address → SameChange view (word_change asks) (view_change asks)
@@ -241,7 +298,7 @@ module _ (view : View) (map : IsMap view) (pc : ℕ) where
       let there = access_by_shown a address (is_aligned size a) _ may (load_shown view (view.shown a) size sign a address pc) e in
       rw there.0 (same_load view size sign a there.1.0 pc there.1.1)
   same_by_view (Stores size a v) address may e =
-      let there = access_by_shown a address (is_aligned size a) _ may (store_shown view (view.shown a) size a v address pc) e in
+      let there = put_by_shown a address (is_aligned size a) _ may (store_shown view (view.shown a) size a v address pc) e in
       rw there.0 (same_store view size a v there.1.0 pc map there.1.1)
   same_by_view Serves address may e = same_stop view _
   same_by_view Breaks address may e = same_stop view _

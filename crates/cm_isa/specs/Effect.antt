@@ -4,7 +4,7 @@ use Rattle.std.specs.Prelude.{◌≡◌, ℕ, ◌+◌, ◌*◌, ◌/◌, ◌%◌
 use Rattle.std.specs.Int.{w32, cast_unsigned, to_le_bytes, from_le_bytes}
 use Rattle.cm_isa.specs.Bits.{signed}
 use Rattle.cm_isa.specs.Register.{put_result}
-use Rattle.cm_isa.specs.View.{View, with_place}
+use Rattle.cm_isa.specs.View.{View, may_load, may_store, with_place}
 use Rattle.cm_isa.specs.Operation.{Operation}
 use Rattle.cm_isa.specs.Action.{Size, Byte, Half, Whole, Action, Sets, Passes, Goes, Links, Loads, Stores, Serves, Breaks, follow, action_at}
 use Rattle.cm_isa.specs.declared.memory.Shown.{Shown}
@@ -76,18 +76,18 @@ store_change (word_in place word) size address value pc =
 store_change no_page size address value pc = stops (PageFault address)
 store_change nothing size address value pc = stops (Fault faults.Place address)
 
--- what an action at pc changes, by what the memory has at each address
-abbrev pub action_change : (memory : ℕ → Cell) → Action → (pc : ℕ) → Change
-action_change memory (Sets value) pc = goes_on (Some value) (follow pc)
-action_change memory Passes pc = goes_on None (follow pc)
-action_change memory (Goes target) pc = if target % 4 == 0 then goes_on None target else stops (Fault faults.Jump target)
-action_change memory (Links target) pc = if target % 4 == 0 then goes_on (Some (follow pc)) target else stops (Fault faults.Jump target)
-action_change memory (Loads size sign address) pc =
+-- what an action at pc changes, by what it may read at each address, and what it may write over
+abbrev pub action_change : (memory stores : ℕ → Cell) → Action → (pc : ℕ) → Change
+action_change memory stores (Sets value) pc = goes_on (Some value) (follow pc)
+action_change memory stores Passes pc = goes_on None (follow pc)
+action_change memory stores (Goes target) pc = if target % 4 == 0 then goes_on None target else stops (Fault faults.Jump target)
+action_change memory stores (Links target) pc = if target % 4 == 0 then goes_on (Some (follow pc)) target else stops (Fault faults.Jump target)
+action_change memory stores (Loads size sign address) pc =
     if is_aligned size address then load_change (memory address) size sign address pc else stops (Fault faults.Align address)
-action_change memory (Stores size address value) pc =
-    if is_aligned size address then store_change (memory address) size address value pc else stops (Fault faults.Align address)
-action_change memory Serves pc = stops Service
-action_change memory Breaks pc = stops (Fault faults.Break pc)
+action_change memory stores (Stores size address value) pc =
+    if is_aligned size address then store_change (stores address) size address value pc else stops (Fault faults.Align address)
+action_change memory stores Serves pc = stops Service
+action_change memory stores Breaks pc = stops (Fault faults.Break pc)
 
 -- ---- what is left after one instruction, of registers in a list and words in places
 
@@ -118,7 +118,7 @@ change_outcome view rs rd change = record { registers = put_result rs rd change.
 
 -- what is left after an action
 abbrev pub action_outcome : View → Action → (rd : ℕ) → List ℕ → (pc : ℕ) → Outcome
-action_outcome view asks rd rs pc = change_outcome view rs rd (action_change (cell_at view) asks pc)
+action_outcome view asks rd rs pc = change_outcome view rs rd (action_change (cell_at view) (cell_at view) asks pc)
 
 -- what is left after the instruction at pc, at these registers and this memory
 abbrev pub outcome : View → Operation → List ℕ → (pc : ℕ) → Outcome
@@ -139,8 +139,8 @@ IsStop (Fault kind address) = Unit {0}
 
 -- ---- which words an instruction may touch
 
--- where the action loads from a place or stores to it, this place is allowed
+-- where the action loads from a place this place may be read, and where it stores to one it may be written
 abbrev pub MayAccess : View → Action → Type 0
-MayAccess view (Loads size sign address) = IsTrue (is_aligned size address) → (place : ℕ) → view.shown address ≡ shown.Place place → IsTrue (view.allowed place)
-MayAccess view (Stores size address value) = IsTrue (is_aligned size address) → (place : ℕ) → view.shown address ≡ shown.Place place → IsTrue (view.allowed place)
+MayAccess view (Loads size sign address) = IsTrue (is_aligned size address) → (place : ℕ) → view.shown address ≡ shown.Place place → IsTrue (may_load (view.access place))
+MayAccess view (Stores size address value) = IsTrue (is_aligned size address) → (place : ℕ) → view.shown address ≡ shown.Place place → IsTrue (may_store (view.access place))
 MayAccess view _ = Unit {0}

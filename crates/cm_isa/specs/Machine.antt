@@ -1,8 +1,8 @@
 -- A hart over a partial map of words, and its steps (RISC-V Unprivileged ISA, RV32I and M). The laws of the code are said
 -- over such a map: whatever a pattern reads or writes has to be mapped, and whatever it doesn't name is kept.
-use Rattle.std.specs.Prelude.{◌≡◌, ℕ, ◌+◌, ◌-◌, ◌%◌, Bool, ◌==◌, if◌then◌else◌, List, [], ◌∷◌, Option, None, Some, slice_index}
+use Rattle.std.specs.Prelude.{◌≡◌, ℕ, ◌+◌, ◌-◌, ◌%◌, ◌==◌, if◌then◌else◌, List, [], ◌∷◌, Option, None, Some, slice_index}
 use Rattle.cm_isa.specs.Register.{with_result}
-use Rattle.cm_isa.specs.View.{View}
+use Rattle.cm_isa.specs.View.{View, Access, no_access, read_access, full_access}
 use Rattle.cm_isa.specs.Operation.{Operation}
 use Rattle.cm_isa.specs.Action.{Action, action_at}
 use Rattle.cm_isa.specs.Effect.{Cell, word_in, nothing, Change, action_change}
@@ -11,9 +11,36 @@ use Rattle.cm_isa.specs.declared.memory.Shown.TheVariants as shown
 use Rattle.cm_isa.specs.declared.execution.Next.{Next}
 use Rattle.cm_isa.specs.declared.execution.Next.TheVariants.{At, Service, PageFault, Fault}
 
--- the words that are mapped, each under the address of its lowest byte
+-- words by the address of their lowest byte
+abbrev pub WordMap : Type 0
+WordMap = ℕ → Option ℕ
+
+-- What is mapped at an address: nothing, a word that may be read and written, or one that may only be read.
+pub data Stored : Type 0 where
+  unmapped : Stored
+  writable : ℕ → Stored
+  read_only : ℕ → Stored
+
+-- what is mapped, by the address of the lowest byte
 abbrev pub Mapped : Type 0
-Mapped = ℕ → Option ℕ
+Mapped = ℕ → Stored
+
+-- a word that may be written
+abbrev pub IsWritable : Stored → Type 0
+IsWritable unmapped = ⊥
+IsWritable (writable w) = Unit {0}
+IsWritable (read_only w) = ⊥
+
+-- the word that may be read, and the one that may be written
+abbrev pub reads : Stored → Option ℕ
+reads unmapped = None
+reads (writable w) = Some w
+reads (read_only w) = Some w
+
+abbrev pub writes : Stored → Option ℕ
+writes unmapped = None
+writes (writable w) = Some w
+writes (read_only w) = None
 
 -- the registers' words, the program counter, and the mapped words
 pub record Machine : Type 0 where
@@ -27,12 +54,19 @@ machine_with m registers counter = record { registers = registers; counter = cou
 
 -- the word at an address is this one, and every other word is as it was
 abbrev pub with_word : Mapped → (address word : ℕ) → Mapped
-with_word words address word a = if a == address then Some word else words a
+with_word words address word a = if a == address then writable word else words a
 
 -- the words after a word is put at an address, if one is
 abbrev pub with_write : Mapped → Option (ℕ × ℕ) → Mapped
 with_write words (Some write) = with_word words write.0 write.1
 with_write words None = words
+
+-- the words that may be read, and those that may be written
+abbrev pub readable_words : Mapped → WordMap
+readable_words words address = reads (words address)
+
+abbrev pub writable_words : Mapped → WordMap
+writable_words words address = writes (words address)
 
 -- the address of the word that holds the byte at this address
 abbrev pub word_address : ℕ → ℕ
@@ -44,7 +78,7 @@ word_cell (Some word) address = word_in address word
 word_cell None address = nothing
 
 -- what the mapped words have at an address
-abbrev pub mapped_cell : Mapped → (address : ℕ) → Cell
+abbrev pub mapped_cell : WordMap → (address : ℕ) → Cell
 mapped_cell words address = word_cell (words (word_address address)) (word_address address)
 
 -- the machine that a change leaves where this comes next, and None where no instruction follows
@@ -60,7 +94,7 @@ change_machine change rd m = next_machine change.next change.result rd change.wr
 
 -- the machine after an action
 abbrev pub action_machine : Action → (rd : ℕ) → Machine → Option Machine
-action_machine asks rd m = change_machine (action_change (mapped_cell m.words) asks m.counter) rd m
+action_machine asks rd m = change_machine (action_change (mapped_cell (readable_words m.words)) (mapped_cell (writable_words m.words)) asks m.counter) rd m
 
 -- the machine after an instruction, and None where none follows: a service, a breakpoint, or a fault, as by a word that is not mapped
 abbrev pub machine_after : Operation → Machine → Option Machine
@@ -83,19 +117,21 @@ InstructionsAt code address (i ∷ is) = code address i × InstructionsAt code (
 
 -- ---- the machine of registers in a list and words in places
 
--- the word in a place, where the place may be touched
-abbrev pub allowed_word : (allowed : Bool) → (word : ℕ) → Option ℕ
-allowed_word allowed word = if allowed then Some word else None
+-- the word in a place, by what may be done with the place
+abbrev pub stored_in : Access → (word : ℕ) → Stored
+stored_in no_access word = unmapped
+stored_in read_access word = read_only word
+stored_in full_access word = writable word
 
--- the word that may be touched where this is shown
-abbrev pub shown_word : Shown → View → Option ℕ
-shown_word (shown.Place place) view = allowed_word (view.allowed place) (view.word_at place)
-shown_word shown.Page view = None
-shown_word shown.Outside view = None
+-- what may be touched where this is shown
+abbrev pub shown_word : Shown → View → Stored
+shown_word (shown.Place place) view = stored_in (view.access place) (view.word_at place)
+shown_word shown.Page view = unmapped
+shown_word shown.Outside view = unmapped
 
 -- the words that a view shows and allows, each under the address of its lowest byte
 abbrev pub view_words : View → Mapped
-view_words view address = if address % 4 == 0 then shown_word (view.shown address) view else None
+view_words view address = if address % 4 == 0 then shown_word (view.shown address) view else unmapped
 
 -- the machine of these registers and this program counter over a view
 abbrev pub machine_of : View → (registers : List ℕ) → (counter : ℕ) → Machine

@@ -1,9 +1,9 @@
 -- Runs of a machine: steps of instructions, which nobody sees, and calls of the environment, each an `ecall` with its reply.
-use Rattle.std.specs.Prelude.{◌≡◌, ℕ, zero, suc, List, [], ◌∷◌, Option, None, Some}
+use Rattle.std.specs.Prelude.{◌≡◌, ℕ, zero, suc, List, [], ◌∷◌, Option, Some}
 use Rattle.cm_isa.specs.Register.{with_result}
 use Rattle.cm_isa.specs.Action.{follow}
 use Rattle.cm_isa.specs.Operation.{ecall}
-use Rattle.cm_isa.specs.Machine.{Mapped, Machine, Code, StepsTo, machine_with}
+use Rattle.cm_isa.specs.Machine.{Stored, unmapped, writable, read_only, reads, Mapped, Machine, Code, StepsTo, machine_with}
 use Rattle.cm_isa.specs.declared.convention.TheConstants as reg
 
 -- a call of the environment: the number of the service, in x31, its arguments, in x5 and x6, and the word of the reply, if it has one
@@ -59,12 +59,13 @@ pub record StopsAt (code : Code) (labels : List Label) (m last : Machine) (servi
 
 -- ---- further words
 
--- the word at an address among some words, or else among further ones
-abbrev pub word_or : Option ℕ → Option ℕ → Option ℕ
-word_or (Some word) more = Some word
-word_or None more = more
+-- what is at an address beside further words: an own word, or else what the further ones have
+abbrev pub word_or : Stored → Stored → Stored
+word_or unmapped more = more
+word_or (writable word) more = writable word
+word_or (read_only word) more = more
 
--- the words, and further ones at addresses where these have none
+-- the words beside further ones; where they may only be read it is as the further ones have it
 abbrev pub with_more : Mapped → (more : Mapped) → Mapped
 with_more words more address = word_or (words address) (more address)
 
@@ -72,6 +73,11 @@ with_more words more address = word_or (words address) (more address)
 abbrev pub machine_with_more : Machine → (more : Mapped) → Machine
 machine_with_more m more = record { registers = m.registers; counter = m.counter; words = with_more m.words more }
 
--- the larger map has every word of the smaller one
-abbrev pub Extends : (small large : Mapped) → Type 0
-Extends small large = (address word : ℕ) → small address ≡ Some word → large address ≡ Some word
+-- what may only be read is to be read among further words too
+abbrev pub StaysReadable : (words more : Mapped) → Type 0
+StaysReadable words more = (address word : ℕ) → words address ≡ read_only word → reads (more address) ≡ Some word
+
+-- the larger map has every own word of the smaller one, and what the smaller one may only read is to be read in it
+pub record Extends (small large : Mapped) : Type 0 where
+  pub keeps_writable : (address word : ℕ) → small address ≡ writable word → large address ≡ writable word
+  pub keeps_readable : (address word : ℕ) → small address ≡ read_only word → reads (large address) ≡ Some word

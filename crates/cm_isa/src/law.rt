@@ -1,13 +1,13 @@
 //! Laws of the definitions that the contracts are stated by: of the listings, and of runs of the machine.
 //! Each is the contract of a function that does nothing.
-ghost use Rattle.std.specs.Prelude.{◌≡◌, ℕ, ◌<◌, List, ◌++◌, length, slice_index, Option, Some, is_some};
+ghost use Rattle.std.specs.Prelude.{◌≡◌, ◌↔◌, ℕ, ◌<◌, List, ◌++◌, length, slice_index, Option, Some, is_some};
 ghost use Rattle.cm_isa.specs.Action.{action_at};
 ghost use Rattle.cm_isa.specs.Address.{InstructionAt};
 ghost use Rattle.cm_isa.specs.Effect.{MayAccess, outcome};
 ghost use Rattle.cm_isa.specs.Format.{Row};
-ghost use Rattle.cm_isa.specs.Machine.{IsMap, Machine, Mapped, StepsTo, machine_after, machine_of};
+ghost use Rattle.cm_isa.specs.Machine.{read_only, writes, IsMap, Machine, Mapped, StepsTo, machine_after, machine_of};
 ghost use Rattle.cm_isa.specs.Operation.{Operation, ecall};
-ghost use Rattle.cm_isa.specs.Run.{Extends, Label, Runs, machine_with_more, replies, with_more};
+ghost use Rattle.cm_isa.specs.Run.{Extends, Label, Runs, StaysReadable, machine_with_more, replies, with_more};
 ghost use Rattle.cm_isa.specs.View.{View};
 
 use crate::execution::Next;
@@ -46,15 +46,17 @@ pub fn replies_determine_runs()
 {}
 
 /// A run is a run with further words beside its own too, and leaves those as they are: a page may be added
-/// between two instructions. No step maps an address or takes one out of the map.
+/// between two instructions. What the run may only read has to be there to be read. No step maps an address or takes one out of the map.
 pub fn runs_keep_more_words()
-    ensures more { (image : List ℕ) (labels : List Label) (m last : Machine) (more : Mapped) →
-        Runs (InstructionAt image) labels m last →
+    ensures beside { (image : List ℕ) (labels : List Label) (m last : Machine) (more : Mapped) →
+        StaysReadable m.words more → Runs (InstructionAt image) labels m last →
         Runs (InstructionAt image) labels (machine_with_more m more) (machine_with_more last more) }
+    ensures read_only { (image : List ℕ) (labels : List Label) (m last : Machine) (address word : ℕ) →
+        Runs (InstructionAt image) labels m last → (last.words address ≡ read_only word) ↔ (m.words address ≡ read_only word) }
     ensures larger { (small large : Mapped) → Extends small large → with_more small large ≡ large }
     ensures map { (image : List ℕ) (labels : List Label) (m last : Machine) (address : ℕ) →
         Runs (InstructionAt image) labels m last →
-        is_some (last.words address) ≡ is_some (m.words address) }
+        is_some (writes (last.words address)) ≡ is_some (writes (m.words address)) }
 {}
 
 /// The machine of a view does an instruction exactly where the outcome goes on and touches what the view

@@ -1,6 +1,6 @@
 //! The words of memory, as an instruction sees them.
 ghost use Rattle.std.specs.Prelude.{◌≡◌, IsTrue};
-ghost use Rattle.cm_isa.specs.View.{Puts, SameMap};
+ghost use Rattle.cm_isa.specs.View.{Puts, SameMap, may_load, may_store};
 
 /// What the map shows at an address.
 #[derive(Clone, Copy, Debug, PartialEq, Eq)]
@@ -21,8 +21,8 @@ pub enum Shown {
 pub trait Words {
     ghost use Rattle.cm_isa.specs.View.{View};
 
-    /// What an instruction sees: what is shown at each address, which places the caller may touch, and
-    /// the word in each place.
+    /// What an instruction sees: what is shown at each address, what the caller may do with each place, and the
+    /// word in it.
     ghost view: { Self → View };
 
     /// The type of what the owner knows beside the view.
@@ -35,16 +35,16 @@ pub trait Words {
     fn show(&self, address: u32) -> Shown
         ensures { result ≡ (view self.now).shown address };
 
-    /// The word in an allowed place.
+    /// The word in a place that may be read.
     fn load(&mut self, place: u32) -> u32
-        requires { IsTrue ((view self.old).allowed place) }
+        requires { IsTrue (may_load ((view self.old).access place)) }
         ensures word { result ≡ (view self.old).word_at place }
         ensures same_view { view self.new ≡ view self.old }
         ensures same_rest { rest self.new ≡ rest self.old };
 
-    /// Puts a word in an allowed place.
+    /// Puts a word in a place that may be written.
     fn store(&mut self, place: u32, word: u32)
-        requires { IsTrue ((view self.old).allowed place) }
+        requires { IsTrue (may_store ((view self.old).access place)) }
         ensures words { Puts (view self.old) (view self.new) place word }
         ensures same_map { SameMap (view self.old) (view self.new) }
         ensures same_rest { rest self.new ≡ rest self.old };

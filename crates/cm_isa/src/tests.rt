@@ -106,11 +106,12 @@ struct Memory {
 
 impl Words for Memory {
     ghost use Rattle.std.specs.Prelude.{ℕ, ◌/◌, nat_lt, if◌then◌else◌, length, slice_index};
+    ghost use Rattle.cm_isa.specs.View.{full_where};
     ghost use Rattle.cm_isa.specs.declared.memory.Shown.TheVariants.{Place, Page, Outside};
 
     ghost view = { λ m. record {
       shown = λ a. if nat_lt a 16 then Place (a / 4) else (if nat_lt a 32 then Page else Outside);
-      allowed = λ p. nat_lt p 4;
+      access = λ p. full_where (nat_lt p 4);
       word_at = slice_index m.words;
     } };
 

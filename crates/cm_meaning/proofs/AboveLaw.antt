@@ -20,9 +20,11 @@ use Rattle.cm_syntax.specs.declared.stmt.Program.{Program}
 use Rattle.cm_syntax.specs.Shape.{Joined, Prefixed, Element, InputAt, IfAlone, IfElse, WhileLoop, ForLoop}
 use Rattle.cm_syntax.specs.Label.{silent, ticks, prints, spawns, syncs, traps, ends, stuck}
 use Rattle.cm_syntax.specs.Operator.{is_zero, natural, binary_value, divides, unary_value}
-use Rattle.cm_syntax.specs.Stack.{Cell, absent, unset, present, Reference, Stack, Destination, Argument, write_word, clear_words, write_parts, are_held, push_frame, pop_frame}
+use Rattle.cm_syntax.specs.Cell.{Cell, present, may_write}
+use Rattle.cm_syntax.specs.Stack.{Reference, Stack, Destination, Argument, write_word, clear_words, write_parts, may_write_all, push_frame, pop_frame}
 use Rattle.cm_syntax.specs.Rest.{Purpose, called, spawned, Item, evaluate, right, apply, prefix, both, either, truth, element, read, arguments, pass, take_back, discard, deliver, perform, sequence, body, declare, assign, update, locate, store, branch, turn, test, part, tick, show, exit, fall, join, end, Hand, idle, holds, returned, entering, Control, control}
-use Rattle.cm_syntax.specs.Step.{Move, top, inside, rest_at_join, when_present, when_held, when_value, when_result, when_some, write_step, leave, is_index, is_split, slice_in, destination_slot, invoke, enter_call, take_value, drop_value, deliver_value, declare_item, do_other, fall_off, slot_at, running_function, call_bytes, when_slice, end_call, give_input, evaluate_step, statement_step, item_step, step}
+use Rattle.cm_syntax.specs.Step.{Move, top, inside, rest_at_join, when_readable, when_writable, when_value, when_result, when_some, write_step, leave, is_index, is_split, slice_in, destination_slot, invoke, enter_call, take_value, drop_value, deliver_value, declare_item, do_other, fall_off, slot_at, running_function, call_bytes, when_slice, end_call, give_input, evaluate_step, statement_step, item_step, step}
+use Rattle.cm_syntax.proofs.AccessLaw.{reading, writing}
 use Rattle.cm_meaning.specs.Elision.{serial}
 use Rattle.cm_meaning.specs.Law.{HoldsDestination}
 
@@ -48,9 +50,9 @@ module _ (program : Program) (page : ℕ) (input : List ℤ) (x : Destination) (
   lowest (end ∷ k) (f ∷ calls) account l = let e = lowest k calls (account + call_bytes program page input f) l in omega (arith, e)
   lowest (_ ∷ k) calls account l = lowest k calls account l
 
-  present_there : (c : Cell ℤ) (v : ℤ) (q : Bool) → (c ≡ absent → ⊥) → (if q then present v else c) ≡ absent → ⊥
-  present_there c v true h e = cc e
-  present_there c v false h e = h e
+  present_there : (c : Cell ℤ) (v : ℤ) (q : Bool) → may_write c ≡ true → may_write (if q then present v else c) ≡ true
+  present_there c v true h = λ i. true
+  present_there c v false h = h
 
   module _ (c : Control) (h : Stack) (still : z.hand ≡ idle) (there : HoldsDestination x (length z.calls) h) where
     abbrev pub Ok : Move → Type 0
@@ -67,15 +69,11 @@ module _ (program : Program) (page : ℕ) (input : List ℤ) (x : Destination) (
       going : (y : Hand) (r : List Item) → IsLevel r c.calls c.account → IsAbove (control c.calls c.account y r) h
       going y r e = record { idle_ = still; level = e; holds_ = there }
 
-      above_present : {A : Type 0} (y : Cell A) (f : A → Move) → ((v : A) → Ok (f v)) → Ok (when_present y f)
-      above_present absent f e = tt
-      above_present unset f e = tt
-      above_present (present v) f e = e v
+      above_present : {A : Type 0} (y : Cell A) (f : A → Move) → ((v : A) → Ok (f v)) → Ok (when_readable y f)
+      above_present y f e = reading Ok tt y f (λ v q. e v)
 
-      above_held : {A : Type 0} (y : Cell A) (f : Move) → Ok f → Ok (when_held y f)
-      above_held absent f e = tt
-      above_held unset f e = e
-      above_held (present v) f e = e
+      above_held : {A : Type 0} (y : Cell A) (f : Move) → Ok f → Ok (when_writable y f)
+      above_held y f e = writing Ok tt y f (λ q. e)
 
       above_value : (y : Hand) (f : ℤ → Move) → ((v : ℤ) → Ok (f v)) → Ok (when_value y f)
       above_value (holds v) f e = e v
@@ -116,7 +114,7 @@ module _ (program : Program) (page : ℕ) (input : List ℤ) (x : Destination) (
 
       above_write : (d s i : ℕ) (p : Option Op) (v : ℤ) (r : List Item) → IsLevel r c.calls c.account → Ok (write_step c h d s i p v r)
       above_write d s i None v r e = above_held (h.words d s i) _ (record { idle_ = still; level = e; holds_ = put_holds x there d s i v })
-      above_write d s i (Some p) v r e = above_present (h.words d s i) _ (λ old. above_result p (binary_value p old v) _ (λ w. record { idle_ = still; level = e; holds_ = put_holds x there d s i w }))
+      above_write d s i (Some p) v r e = above_held (h.words d s i) _ (above_present (h.words d s i) _ (λ old. above_result p (binary_value p old v) _ (λ w. record { idle_ = still; level = e; holds_ = put_holds x there d s i w })))
 
       above_call : (u : Purpose) (f : ℕ) (ws : List Argument) → Ok (enter_call c h u f ws k)
       above_call called f ws = going (entering f ws) k l
@@ -163,7 +161,7 @@ module _ (program : Program) (page : ℕ) (input : List ℤ) (x : Destination) (
       above_declare : (y : ℕ) (s : Slot) (e : Option (Expr ℕ)) (more : List (items.Item ℕ)) → Ok (declare_item c h y s e more k)
       above_declare y slot.Scalar None more = above_write (top c.calls) y 0 None (pos 0) (declare more ∷ k) l
       above_declare y slot.Scalar (Some e) more = going idle _ l
-      above_declare y (slot.Array n) e more = above_if (are_held (h.words (top c.calls) y) n) _ _ (record { idle_ = still; level = l; holds_ = zeroed_holds x there (top c.calls) y n }) tt
+      above_declare y (slot.Array n) e more = above_if (may_write_all (h.words (top c.calls) y) n) _ _ (record { idle_ = still; level = l; holds_ = zeroed_holds x there (top c.calls) y n }) tt
       above_declare y slot.Slice e more = tt
 
       above_evaluate : (e : Expr ℕ) → Ok (evaluate_step program page input c h e k)

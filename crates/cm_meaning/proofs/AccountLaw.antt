@@ -20,9 +20,11 @@ use Rattle.cm_syntax.specs.Shape.{Joined, Prefixed, Element, InputAt, IfAlone, I
 use Rattle.cm_syntax.specs.Trap as kind
 use Rattle.cm_syntax.specs.Label.{silent, ticks, prints, spawns, syncs, traps, ends, stuck}
 use Rattle.cm_syntax.specs.Operator.{is_zero, natural, binary_value, divides, unary_value}
-use Rattle.cm_syntax.specs.Stack.{Cell, absent, unset, present, Reference, Stack, Destination, Argument, are_held, push_frame, empty_stack}
+use Rattle.cm_syntax.specs.Cell.{Cell}
+use Rattle.cm_syntax.specs.Stack.{Reference, Stack, Destination, Argument, may_write_all, push_frame, empty_stack}
 use Rattle.cm_syntax.specs.Rest.{Purpose, called, spawned, Item, evaluate, right, apply, prefix, both, either, truth, element, read, arguments, pass, take_back, discard, deliver, perform, sequence, body, declare, assign, update, locate, store, branch, turn, test, part, tick, show, exit, fall, join, end, Hand, idle, holds, returned, entering, framing, Control, control}
-use Rattle.cm_syntax.specs.Step.{Move, top, inside, rest_at_join, when_present, when_held, when_value, when_result, when_some, write_step, leave, is_index, is_split, slice_in, call_bytes_in, destination_slot, invoke, enter_call, take_value, drop_value, deliver_value, declare_item, do_other, fall_off, slot_at, running_function, call_bytes, when_slice, push_call, end_call, give_input, evaluate_step, statement_step, item_step, hand_step, step}
+use Rattle.cm_syntax.specs.Step.{Move, top, inside, rest_at_join, when_readable, when_writable, when_value, when_result, when_some, write_step, leave, is_index, is_split, slice_in, call_bytes_in, destination_slot, invoke, enter_call, take_value, drop_value, deliver_value, declare_item, do_other, fall_off, slot_at, running_function, call_bytes, when_slice, push_call, end_call, give_input, evaluate_step, statement_step, item_step, hand_step, step}
+use Rattle.cm_syntax.proofs.AccessLaw.{reading, writing}
 use Rattle.cm_meaning.specs.Elision.{serial, here, quiet, tick as one_tick, show as one_number}
 use Rattle.cm_meaning.specs.Meaning.{Limits, Comes, serial_step, first_control}
 use Rattle.cm_meaning.specs.Measure.{account_of}
@@ -41,15 +43,11 @@ module _ (program : Program) (page : ℕ) (input : List ℤ) (c : Control) (h : 
   Keeps (syncs t) = Same t
   Keeps _ = ⊤
 
-  keep_present : {A : Type 0} (y : Cell A) (f : A → Move) → ((v : A) → Keeps (f v)) → Keeps (when_present y f)
-  keep_present (present v) f e = e v
-  keep_present unset f e = tt
-  keep_present absent f e = tt
+  keep_present : {A : Type 0} (y : Cell A) (f : A → Move) → ((v : A) → Keeps (f v)) → Keeps (when_readable y f)
+  keep_present y f e = reading Keeps tt y f (λ v q. e v)
 
-  keep_held : {A : Type 0} (y : Cell A) (f : Move) → Keeps f → Keeps (when_held y f)
-  keep_held absent f e = tt
-  keep_held unset f e = e
-  keep_held (present v) f e = e
+  keep_held : {A : Type 0} (y : Cell A) (f : Move) → Keeps f → Keeps (when_writable y f)
+  keep_held y f e = writing Keeps tt y f (λ q. e)
 
   keep_value : (y : Hand) (f : ℤ → Move) → ((v : ℤ) → Keeps (f v)) → Keeps (when_value y f)
   keep_value (holds v) f e = e v
@@ -78,7 +76,7 @@ module _ (program : Program) (page : ℕ) (input : List ℤ) (c : Control) (h : 
 
   keep_write : (d s i : ℕ) (p : Option Op) (v : ℤ) (k : List Item) → Keeps (write_step c h d s i p v k)
   keep_write d s i None v k = keep_held (h.words d s i) _ (refl, refl)
-  keep_write d s i (Some p) v k = keep_present (h.words d s i) _ (λ old. keep_result p (binary_value p old v) _ (λ w. (refl, refl)))
+  keep_write d s i (Some p) v k = keep_held (h.words d s i) _ (keep_present (h.words d s i) _ (λ old. keep_result p (binary_value p old v) _ (λ w. (refl, refl))))
 
   keep_call : (u : Purpose) (f : ℕ) (ws : List Argument) (k : List Item) → Keeps (enter_call c h u f ws k)
   keep_call called f ws k = (refl, refl)
@@ -123,7 +121,7 @@ module _ (program : Program) (page : ℕ) (input : List ℤ) (c : Control) (h : 
   keep_declare : (x : ℕ) (z : Slot) (e : Option (Expr ℕ)) (more : List (items.Item ℕ)) (k : List Item) → Keeps (declare_item c h x z e more k)
   keep_declare x slot.Scalar None more k = keep_write (top c.calls) x 0 None (pos 0) (declare more ∷ k)
   keep_declare x slot.Scalar (Some e) more k = (refl, refl)
-  keep_declare x (slot.Array n) e more k = keep_if (are_held (h.words (top c.calls) x) n) _ _ (refl, refl) tt
+  keep_declare x (slot.Array n) e more k = keep_if (may_write_all (h.words (top c.calls) x) n) _ _ (refl, refl) tt
   keep_declare x slot.Slice e more k = tt
 
   keep_evaluate : (e : Expr ℕ) (k : List Item) → Keeps (evaluate_step program page input c h e k)

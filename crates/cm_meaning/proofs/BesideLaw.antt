@@ -1,8 +1,9 @@
--- A step on some words is the same step beside other words, which it leaves alone.
+-- A step on some words is the same step beside other words, which it leaves alone; and with what it needs of all of
+-- them it goes on as it does on all.
 use Rattle.std.proofs.Common.{◌≡◌, ◌≢◌, ℕ, zero, suc, ◌+◌, ◌<◌, List, [], ◌∷◌, length, Option, None, Some, refl, sym, ap, ◌∙◌, subst, arith, inl, inr}
-use Rattle.std.proofs.lemmas.Bool.{ltb-true}
+use Rattle.std.proofs.lemmas.Bool.{eq-eqb, eqb-true, ltb-true}
 use Rattle.std.proofs.lemmas.Bool.Decides.{eqb_tells}
-use Rattle.std.specs.Prelude.{◌-◌, Bool, true, false, ◌==◌, ◌&&◌, if◌then◌else◌, nat_le, nat_lt, ℤ, pos, slice_get}
+use Rattle.std.specs.Prelude.{Bool, true, false, ◌==◌, ◌&&◌, if◌then◌else◌, nat_le, nat_lt, ℤ, pos, slice_get, ⊤}
 use Rattle.cm_syntax.specs.declared.expr.Op.{Op}
 use Rattle.cm_syntax.specs.declared.expr.Op.TheVariants as op
 use Rattle.cm_syntax.specs.declared.expr.Expr.{Expr}
@@ -18,50 +19,19 @@ use Rattle.cm_syntax.specs.declared.stmt.Stmt.TheVariants as statement
 use Rattle.cm_syntax.specs.declared.stmt.Function.{Function}
 use Rattle.cm_syntax.specs.declared.stmt.Program.{Program}
 use Rattle.cm_syntax.specs.Shape.{Joined, Prefixed, Element, InputAt, IfAlone, IfElse, WhileLoop, ForLoop}
-use Rattle.cm_syntax.specs.Label.{silent}
+use Rattle.cm_syntax.specs.Label.{silent, stuck}
 use Rattle.cm_syntax.specs.Operator.{is_zero, natural, binary_value, divides, unary_value}
-use Rattle.cm_syntax.specs.Stack.{Cell, absent, unset, present, Reference, Stack, Destination, Argument, write_word, clear_words, write_parts, is_held, are_held, word_parameter, slice_parameter, push_frame, pop_frame, CellSum, StackSum, IsUnder}
+use Rattle.cm_syntax.specs.Cell.{Cell, absent, unset, present, is_held, value_in, may_write, Loan, unlent, to_read, lent_cell, kept_cell, CellSum}
+use Rattle.cm_syntax.specs.Stack.{Reference, Stack, Destination, Argument, write_word, clear_words, write_reference, write_parts, may_write_all, word_parameter, slice_parameter, push_frame, pop_frame, lent_word, lent_reference, StackSum, IsUnder}
 use Rattle.cm_syntax.specs.Rest.{Purpose, called, spawned, Item, evaluate, right, apply, prefix, both, either, truth, element, read, arguments, pass, take_back, discard, deliver, perform, sequence, body, declare, assign, update, locate, store, branch, turn, test, part, tick, show, exit, fall, join, end, Hand, idle, holds, returned, entering, framing, Control}
-use Rattle.cm_syntax.specs.Step.{Move, top, rest_at_join, when_present, when_held, when_value, when_result, when_some, write_step, leave, is_index, is_split, slice_in, call_bytes_in, invoke, enter_call, take_value, drop_value, deliver_value, declare_item, do_other, fall_off, slot_at, running_function, when_slice, push_call, end_call, give_input, evaluate_step, statement_step, item_step, hand_step, step}
-use Rattle.cm_meaning.specs.Law.{IsBeside}
-
-alone : {A : Type 0} (a b c : Cell A) → CellSum a b c → (a ≡ absent → ⊥) → b ≡ absent
-alone absent b c s h = absurd (h refl)
-alone unset absent c s h = refl
-alone unset unset c s h = absurd s
-alone unset (present w) c s h = absurd s
-alone (present v) absent c s h = refl
-alone (present v) unset c s h = absurd s
-alone (present v) (present w) c s h = absurd s
-
-beside_new : {A : Type 0} (z b : Cell A) → b ≡ absent → CellSum z b z
-beside_new z b e = subst (λ q. CellSum z q z) (sym e) (by z)
-  where
-    by : {A : Type 0} (z : Cell A) → CellSum z absent z
-    by absent = refl
-    by unset = refl
-    by (present v) = refl
-
--- what is held is held beside other words
-same_held : {A : Type 0} (a b c : Cell A) → CellSum a b c → is_held a ≡ true → (is_held c ≡ true) × (b ≡ absent)
-same_held absent b c s h = cc h
-same_held unset absent c s h = (ap is_held s, refl)
-same_held unset unset c s h = absurd s
-same_held unset (present w) c s h = absurd s
-same_held (present v) absent c s h = (ap is_held s, refl)
-same_held (present v) unset c s h = absurd s
-same_held (present v) (present w) c s h = absurd s
+use Rattle.cm_syntax.specs.Step.{Move, top, rest_at_join, when_readable, when_writable, when_value, when_result, when_some, write_step, leave, is_index, is_split, slice_in, call_bytes_in, invoke, enter_call, take_value, drop_value, deliver_value, declare_item, do_other, fall_off, slot_at, running_function, when_slice, push_call, end_call, give_input, evaluate_step, statement_step, item_step, hand_step, step}
+use Rattle.cm_meaning.specs.Law.{IsBeside, writes_next, HasNeeded}
+use Rattle.cm_syntax.proofs.CellLaw.{cell_nothing, writable_alone, writable_sum, value_sum, held_value, loan_sum}
+use Rattle.cm_syntax.proofs.AccessLaw.{reading, writing, reads_value, writes_on, writes_no_loan}
 
 pub and_true : (x y : Bool) → (x && y) ≡ true → (x ≡ true) × (y ≡ true)
 and_true true y h = (refl, h)
 and_true false y h = cc h
-
-and_both : (x y : Bool) → x ≡ true → y ≡ true → (x && y) ≡ true
-and_both x y h l = rw h l
-
-same_all : (a b c : ℕ → Cell ℤ) (n : ℕ) → ((i : ℕ) → CellSum (a i) (b i) (c i)) → are_held a n ≡ true → are_held c n ≡ true
-same_all a b c zero s h = refl
-same_all a b c (suc n) s h = let both_ = and_true (is_held (a n)) (are_held a n) h in and_both (is_held (c n)) (are_held c n) (same_held (a n) (b n) (c n) (s n) both_.0).0 (same_all a b c n s both_.1)
 
 pub none_below : (i : ℕ) → i < 0 → ⊥
 none_below i l = omega (arith, l)
@@ -69,282 +39,326 @@ none_below i l = omega (arith, l)
 pub below : (i n : ℕ) → (i ≢ n) → i < suc n → i < n
 below i n d l = omega (arith, d, l)
 
-all_gone : (a b c : ℕ → Cell ℤ) (n : ℕ) → ((i : ℕ) → CellSum (a i) (b i) (c i)) → are_held a n ≡ true → (i : ℕ) → nat_lt i n ≡ true → b i ≡ absent
-all_gone a b c n s h i l = by n h (ltb-true i n l)
-  where
-    by : (n : ℕ) → are_held a n ≡ true → i < n → b i ≡ absent
-    by zero h l = absurd (none_below i l)
-    by (suc n) h l = let both_ = and_true (is_held (a n)) (are_held a n) h in elim (eqb_tells i n) [
-      | inl one ↦ ap b one.1 ∙ (same_held (a n) (b n) (c n) (s n) both_.0).1
-      | inr ne ↦ by n both_.1 (below i n ne.1 l)
-    ]
+-- where the tests of a word hold it is that word
+pub one_place : (e d t s j i : ℕ) → (e == d && (t == s && j == i)) ≡ true → (e ≡ d) × (t ≡ s) × (j ≡ i)
+one_place e d t s j i q = let a = and_true (e == d) (t == s && j == i) q in let b = and_true (t == s) (j == i) a.1 in (eqb-true e d a.0, eqb-true t s b.0, eqb-true j i b.1)
 
-module _ (program : Program) (page : ℕ) (input : List ℤ) (a b g : Stack) (o : StackSum a b g) where
-  abbrev On : Move → Move → Type 0
-  On x y = IsBeside b x y
+pub in_slot : (e d t s j m : ℕ) → (e == d && (t == s && nat_lt j m)) ≡ true → (e ≡ d) × (t ≡ s) × (j < m)
+in_slot e d t s j m q = let a = and_true (e == d) (t == s && nat_lt j m) q in let b = and_true (t == s) (nat_lt j m) a.1 in (eqb-true e d a.0, eqb-true t s b.0, ltb-true j m b.1)
 
-  same : (c : Control) → On (silent c a) (silent c g)
-  same c = λ u. (g, refl, o)
+-- a sum in which one cell was changed
+pub sum_if : {A : Type 0} (q : Bool) (v w x y z : Cell A) → (q ≡ true → CellSum v y w) → CellSum x y z → CellSum (if q then v else x) y (if q then w else z)
+sum_if true v w x y z h s = h refl
+sum_if false v w x y z h s = s
 
-  beside_present : {A : Type 0} (x y z : Cell A) (f l : A → Move) → CellSum x y z → ((v : A) → On (f v) (l v)) → On (when_present x f) (when_present z l)
-  beside_present absent y z f l s h = tt
-  beside_present unset y z f l s h = tt
-  beside_present (present v) absent z f l s h = subst (λ q. On (f v) (when_present q l)) (sym s) (h v)
-  beside_present (present v) unset z f l s h = absurd s
-  beside_present (present v) (present w) z f l s h = absurd s
+-- where the other has nothing
+sum_new : {A : Type 0} (q : Bool) (w x y z : Cell A) → (q ≡ true → y ≡ absent) → CellSum x y z → CellSum (if q then w else x) y (if q then w else z)
+sum_new q w x y z e s = sum_if q w w x y z (λ i. subst (λ y. CellSum w y w) (sym (e i)) (cell_nothing w)) s
 
-  beside_held : {A : Type 0} (x y z : Cell A) (f l : Move) → CellSum x y z → (y ≡ absent → On f l) → On (when_held x f) (when_held z l)
-  beside_held absent y z f l s h = tt
-  beside_held unset absent z f l s h = subst (λ q. On f (when_held q l)) (sym s) (h refl)
-  beside_held unset unset z f l s h = absurd s
-  beside_held unset (present w) z f l s h = absurd s
-  beside_held (present v) absent z f l s h = subst (λ q. On f (when_held q l)) (sym s) (h refl)
-  beside_held (present v) unset z f l s h = absurd s
-  beside_held (present v) (present w) z f l s h = absurd s
+-- what is left of a cell by a loan has its value
+less_value : {A : Type 0} (q : Bool) (l : Loan) (c : Cell A) (v : A) → value_in (if q then lent_cell l c else c) ≡ Some v → value_in c ≡ Some v
+less_value true l c v e = value_sum (lent_cell l c) (kept_cell l c) c v (loan_sum l c) e
+less_value false l c v e = e
 
-  -- a word that is read is held
-  beside_present_held : {A : Type 0} (x y z : Cell A) (f l : A → Move) → CellSum x y z → ((v : A) → y ≡ absent → On (f v) (l v)) → On (when_present x f) (when_present z l)
-  beside_present_held absent y z f l s h = tt
-  beside_present_held unset y z f l s h = tt
-  beside_present_held (present v) absent z f l s h = subst (λ q. On (f v) (when_present q l)) (sym s) (h v refl)
-  beside_present_held (present v) unset z f l s h = absurd s
-  beside_present_held (present v) (present w) z f l s h = absurd s
+-- a move that reads or writes is stuck where what comes then is
+stuck_read : {A : Type 0} (c : Cell A) (l : A → Move) → ((v : A) → value_in c ≡ Some v → l v ≡ stuck) → when_readable c l ≡ stuck
+stuck_read c l h = reading (λ m. m ≡ stuck) refl c l h
 
-  beside_value : (h : Hand) (f l : ℤ → Move) → ((v : ℤ) → On (f v) (l v)) → On (when_value h f) (when_value h l)
-  beside_value (holds v) f l e = e v
-  beside_value _ f l e = tt
+stuck_write : {A : Type 0} (c : Cell A) (m : Move) → (may_write c ≡ true → m ≡ stuck) → when_writable c m ≡ stuck
+stuck_write c m h = writing (λ m. m ≡ stuck) refl c m h
 
-  beside_if : (t : Bool) (f l x y : Move) → On f x → On l y → On (if t then f else l) (if t then x else y)
-  beside_if true f l x y h k = h
-  beside_if false f l x y h k = k
+-- words that are all to be written are written one by one
+one_by_one : (c : Cell ℤ) (more q : Bool) (m : Move) → may_write c ≡ q → when_writable c (if more then m else stuck) ≡ (if q && more then m else stuck)
+one_by_one c more true m e = writes_on c _ e
+one_by_one c more false m e = stuck_write c _ (λ w. cc (sym w ∙ e))
 
-  beside_slice_of : (calls : List ℕ) (z : Option Slot) (s : ℕ) (f l : Reference → Move) → ((r : Reference) → On (f r) (l r)) → On (slice_in calls a z s f) (slice_in calls g z s l)
-  beside_slice_of calls (Some slot.Scalar) s f l h = h _
-  beside_slice_of calls (Some (slot.Array n)) s f l h = h _
-  beside_slice_of calls (Some slot.Slice) s f l h = beside_present (a.references (top calls) s) (b.references (top calls) s) (g.references (top calls) s) f l (o.references (top calls) s) h
-  beside_slice_of calls None s f l h = tt
+-- the move isn't stuck
+abbrev GoesOn : Move → Type 0
+GoesOn stuck = ⊥
+GoesOn _ = ⊤
 
-  beside_slice : (c : Control) (s : ℕ) (f l : Reference → Move) → ((r : Reference) → On (f r) (l r)) → On (when_slice program page input c a s f) (when_slice program page input c g s l)
-  beside_slice c s f l h = beside_slice_of c.calls (slot_at program page input c.calls s) s f l h
+module _ (program : Program) (page : ℕ) (input : List ℤ) (a b g : Stack) (o : StackSum a b g) (c : Control) where
+  -- a move on the part is the one on the whole, and isn't stuck where that isn't and the part has what is needed
+  record Agrees (writes : Bool) (does : Stack → Move) : Type 0 where
+    beside_ : IsUnder (length c.calls) b → IsBeside b (does a) (does g)
+    goes : HasNeeded writes does a g → does a ≡ stuck → does g ≡ stuck
 
-  beside_result : (p : Op) (v : Option ℤ) (f l : ℤ → Move) → ((w : ℤ) → On (f w) (l w)) → On (when_result p v f) (when_result p v l)
-  beside_result p (Some v) f l h = h v
-  beside_result p None f l h = beside_if (divides p) _ _ _ _ refl tt
+  leaf : {q : Bool} {f : Stack → Move} → (IsUnder (length c.calls) b → IsBeside b (f a) (f g)) → GoesOn (f a) → Agrees q f
+  leaf s on = record { beside_ = s; goes = λ n e. absurd (subst GoesOn e on) }
 
-  beside_some : (v : Option ℤ) (f l : ℤ → Move) → ((w : ℤ) → On (f w) (l w)) → On (when_some v f) (when_some v l)
-  beside_some (Some v) f l h = h v
-  beside_some None f l h = tt
+  same : {q : Bool} (t : Control) → Agrees q (λ h. silent t h)
+  same t = leaf (λ l u. (g, refl, o)) tt
+
+  stops : {q : Bool} → Agrees q (λ h. stuck)
+  stops = record { beside_ = λ l. tt; goes = λ n e. refl }
+
+  -- a stack has no value that the whole doesn't have
+  record Within (h : Stack) : Type 0 where
+    words : (d s i : ℕ) (v : ℤ) → value_in (h.words d s i) ≡ Some v → value_in (g.words d s i) ≡ Some v
+    references : (d s : ℕ) (v : Reference) → value_in (h.references d s) ≡ Some v → value_in (g.references d s) ≡ Some v
+
+  less_word : (l : Loan) (d s i : ℕ) → Within (lent_word g l d s i)
+  less_word l d s i = record { words = λ e t j v. less_value (e == d && (t == s && j == i)) l (g.words e t j) v; references = λ e t v h. h }
+
+  less_reference : (l : Loan) (d s : ℕ) → Within (lent_reference g l d s)
+  less_reference l d s = record { words = λ e t j v h. h; references = λ e t v. less_value (e == d && t == s) l (g.references e t) v }
+
+  -- what is needed behind a cell is needed
+  behind : {q : Bool} {f r : Stack → Move} → ((h : Stack) → Within h → r h ≡ stuck → f h ≡ stuck) → HasNeeded q f a g → HasNeeded q r a g
+  behind go n = record {
+    words = λ d s i e. n.words d s i (go _ (less_word unlent d s i) e);
+    words_written = λ w d s i e. n.words_written w d s i (go _ (less_word to_read d s i) e);
+    references = λ d s e. n.references d s (go _ (less_reference unlent d s) e);
+    references_written = λ w d s e. n.references_written w d s (go _ (less_reference to_read d s) e);
+  }
+
+  -- what is read has its value beside other words, and where it is held
+  reads : {q : Bool} {A : Type 0} (cell : Stack → Cell A) (f : A → Stack → Move) → CellSum (cell a) (cell b) (cell g)
+      → ((h : Stack) → Within h → (v : A) → value_in (cell h) ≡ Some v → value_in (cell g) ≡ Some v)
+      → (HasNeeded q (λ h. when_readable (cell h) (λ v. f v h)) a g → is_held (cell a) ≡ true)
+      → ((v : A) → Agrees q (f v)) → Agrees q (λ h. when_readable (cell h) (λ v. f v h))
+  reads cell f s less held go = record {
+    beside_ = λ l. reading (λ m. IsBeside b m (when_readable (cell g) (λ v. f v g))) tt (cell a) (λ v. f v a) (λ v e.
+        subst (λ m. IsBeside b (f v a) m) (sym (reads_value (cell g) v (λ v. f v g) (value_sum (cell a) (cell b) (cell g) v s e))) ((go v).beside_ l));
+    goes = λ n e. stuck_read (cell g) (λ v. f v g) (λ v k. (go v).goes
+        (behind (λ h w r. stuck_read (cell h) (λ v. f v h) (λ x i. let same_ : v ≡ x = cc (sym k ∙ less h w x i) in subst (λ x. f x h ≡ stuck) same_ r)) n)
+        (sym (reads_value (cell a) v (λ v. f v a) (sym (held_value (cell a) (cell b) (cell g) s (held n)) ∙ k)) ∙ e));
+  }
+
+  -- what is written is held by nobody else
+  writes : {A : Type 0} (cell : Stack → Cell A) (f : Stack → Move) → CellSum (cell a) (cell b) (cell g)
+      → (HasNeeded true (λ h. when_writable (cell h) (f h)) a g → may_write (cell a) ≡ true)
+      → (cell b ≡ absent → Agrees true f) → Agrees true (λ h. when_writable (cell h) (f h))
+  writes cell f s held go = record {
+    beside_ = λ l. writing (λ m. IsBeside b m (when_writable (cell g) (f g))) tt (cell a) (f a) (λ e.
+        let w = writable_sum (cell a) (cell b) (cell g) s e in subst (λ m. IsBeside b (f a) m) (sym (writes_on (cell g) (f g) w.0)) ((go w.1).beside_ l));
+    goes = λ n e. stuck_write (cell g) (f g) (λ k. (go (writable_alone (cell a) (cell b) (cell g) s (held n))).goes
+        (behind (λ h w r. stuck_write (cell h) (f h) (λ i. r)) n) (sym (writes_on (cell a) (f a) (held n)) ∙ e));
+  }
+
+  by_word : {q : Bool} (d s i : ℕ) (f : ℤ → Stack → Move) → ((v : ℤ) → Agrees q (f v)) → Agrees q (λ h. when_readable (h.words d s i) (λ v. f v h))
+  by_word d s i f go = reads (λ h. h.words d s i) f (o.words d s i) (λ h w. w.words d s i) (λ n. n.words d s i (rw (eq-eqb d d refl, eq-eqb s s refl, eq-eqb i i refl) refl)) go
+
+  by_written : (d s i : ℕ) (f : Stack → Move) → (b.words d s i ≡ absent → Agrees true f) → Agrees true (λ h. when_writable (h.words d s i) (f h))
+  by_written d s i f go = writes (λ h. h.words d s i) f (o.words d s i) (λ n. n.words_written refl d s i (rw (eq-eqb d d refl, eq-eqb s s refl, eq-eqb i i refl) (writes_no_loan _ _))) go
+
+  by_set : (d s : ℕ) (f : Stack → Move) → (b.references d s ≡ absent → Agrees true f) → Agrees true (λ h. when_writable (h.references d s) (f h))
+  by_set d s f go = writes (λ h. h.references d s) f (o.references d s) (λ n. n.references_written refl d s (rw (eq-eqb d d refl, eq-eqb s s refl) (writes_no_loan _ _))) go
+
+  by_all : (d s n : ℕ) (f : Stack → Move) → (((i : ℕ) → i < n → b.words d s i ≡ absent) → Agrees true f) → Agrees true (λ h. if may_write_all (h.words d s) n then f h else stuck)
+  by_all d s zero f go = go (λ i l. absurd (none_below i l))
+  by_all d s (suc n) f go = subst (Agrees true) (λ j h. one_by_one (h.words d s n) (may_write_all (h.words d s) n) (may_write (h.words d s n)) (f h) refl j)
+      (by_written d s n (λ h. if may_write_all (h.words d s) n then f h else stuck) (λ e. by_all d s n f (λ t. go (λ i l. elim (eqb_tells i n) [
+        | inl one ↦ ap (b.words d s) one.1 ∙ e
+        | inr ne ↦ t i (below i n ne.1 l)
+      ]))))
+
+  by_value : {q : Bool} (h : Hand) (f : ℤ → Stack → Move) → ((v : ℤ) → Agrees q (f v)) → Agrees q (λ s. when_value h (λ v. f v s))
+  by_value (holds v) f go = go v
+  by_value _ f go = stops
+
+  by_if : {q : Bool} (t : Bool) (f l : Stack → Move) → Agrees q f → Agrees q l → Agrees q (λ h. if t then f h else l h)
+  by_if true f l x y = x
+  by_if false f l x y = y
+
+  by_slice_of : {q : Bool} (z : Option Slot) (s : ℕ) (f : Reference → Stack → Move) → ((r : Reference) → Agrees q (f r)) → Agrees q (λ h. slice_in c.calls h z s (λ r. f r h))
+  by_slice_of (Some slot.Scalar) s f go = go _
+  by_slice_of (Some (slot.Array n)) s f go = go _
+  by_slice_of (Some slot.Slice) s f go = let d = top c.calls in
+      reads (λ h. h.references d s) f (o.references d s) (λ h w. w.references d s) (λ n. n.references d s (rw (eq-eqb d d refl, eq-eqb s s refl) refl)) go
+  by_slice_of None s f go = stops
+
+  by_slice : {q : Bool} (s : ℕ) (f : Reference → Stack → Move) → ((r : Reference) → Agrees q (f r)) → Agrees q (λ h. when_slice program page input c h s (λ r. f r h))
+  by_slice s f go = by_slice_of (slot_at program page input c.calls s) s f go
+
+  by_result : {q : Bool} (p : Op) (v : Option ℤ) (f : ℤ → Stack → Move) → ((w : ℤ) → Agrees q (f w)) → Agrees q (λ h. when_result p v (λ w. f w h))
+  by_result p (Some v) f go = go v
+  by_result p None f go = by_if (divides p) _ _ (leaf (λ l. refl) tt) stops
+
+  by_some : {q : Bool} (v : Option ℤ) (f : ℤ → Stack → Move) → ((w : ℤ) → Agrees q (f w)) → Agrees q (λ h. when_some v (λ w. f w h))
+  by_some (Some v) f go = go v
+  by_some None f go = stops
 
   sum_put : (d s i : ℕ) (v : ℤ) → b.words d s i ≡ absent → StackSum (write_word a d s i v) b (write_word g d s i v)
   sum_put d s i v none_ = record {
-    words = λ e t j. elim (eqb_tells e d) [
-      | inr ne ↦ let x : (e == d) ≡ false = ne.0 in rw x (o.words e t j)
-      | inl one ↦ elim (eqb_tells t s) [
-        | inr ne ↦ let x : (e == d) ≡ true = one.0 in let y : (t == s) ≡ false = ne.0 in rw (x, y) (o.words e t j)
-        | inl two ↦ elim (eqb_tells j i) [
-          | inr ne ↦ let x : (e == d) ≡ true = one.0 in let y : (t == s) ≡ true = two.0 in let z : (j == i) ≡ false = ne.0 in rw (x, y, z) (o.words e t j)
-          | inl three ↦ let x : (e == d) ≡ true = one.0 in let y : (t == s) ≡ true = two.0 in let z : (j == i) ≡ true = three.0 in
-              let gone : b.words e t j ≡ absent = ap (λ q. b.words q t j) one.1 ∙ ap (λ q. b.words d q j) two.1 ∙ ap (λ q. b.words d s q) three.1 ∙ none_ in
-              rw (x, y, z) (beside_new (present v) (b.words e t j) gone)
-        ]
-      ]
-    ];
+    words = λ e t j. sum_new (e == d && (t == s && j == i)) (present v) _ _ _ (λ q. let x = one_place e d t s j i q in (λ k. b.words (x.0 k) (x.1 k) (x.2 k)) ∙ none_) (o.words e t j);
     references = o.references;
   }
 
-  beside_write : (c : Control) (d s i : ℕ) (p : Option Op) (v : ℤ) (k : List Item) → On (write_step c a d s i p v k) (write_step c g d s i p v k)
-  beside_write c d s i None v k = beside_held _ _ _ _ _ (o.words d s i) (λ e u. (write_word g d s i v, refl, sum_put d s i v e))
-  beside_write c d s i (Some p) v k = beside_present_held _ _ _ _ _ (o.words d s i) (λ old e. beside_result p (binary_value p old v) _ _ (λ w u. (write_word g d s i w, refl, sum_put d s i w e)))
+  beside_write : (d s i : ℕ) (p : Option Op) (v : ℤ) (k : List Item) → Agrees true (λ h. write_step c h d s i p v k)
+  beside_write d s i None v k = by_written d s i _ (λ e. leaf (λ l u. (write_word g d s i v, refl, sum_put d s i v e)) tt)
+  beside_write d s i (Some p) v k = by_written d s i _ (λ e. by_word d s i _ (λ old. by_result p (binary_value p old v) _ (λ w. leaf (λ l u. (write_word g d s i w, refl, sum_put d s i w e)) tt)))
 
-  beside_call : (c : Control) (u : Purpose) (f : ℕ) (ws : List Argument) (k : List Item) → On (enter_call c a u f ws k) (enter_call c g u f ws k)
-  beside_call c called f ws k = same _
-  beside_call c (spawned None) f ws k = (_, _, refl)
-  beside_call c (spawned (Some x)) f ws k = beside_held _ _ _ _ _ (o.words (top c.calls) x 0) (λ e. (_, _, refl))
+  beside_call : (u : Purpose) (f : ℕ) (ws : List Argument) (k : List Item) → Agrees (writes_next (arguments u f ws end_of-Arg ∷ k)) (λ h. enter_call c h u f ws k)
+  beside_call called f ws k = same _
+  beside_call (spawned None) f ws k = leaf (λ l. (_, _, refl)) tt
+  beside_call (spawned (Some x)) f ws k = by_written (top c.calls) x 0 _ (λ e. leaf (λ l. (_, _, refl)) tt)
 
-  beside_input : (c : Control) (v : Option ℤ) (k : List Item) → On (give_input program page input c a v k) (give_input program page input c g v k)
-  beside_input c None k = refl
-  beside_input c (Some v) k = same _
+  beside_input : {q : Bool} (v : Option ℤ) (k : List Item) → Agrees q (λ h. give_input program page input c h v k)
+  beside_input None k = leaf (λ l. refl) tt
+  beside_input (Some v) k = same _
 
-  beside_invoke : (c : Control) (u : Purpose) (e : Expr ℕ) (k : List Item) → On (invoke c a u e k) (invoke c g u e k)
-  beside_invoke c u (expression.Call' f _ row) k = same _
-  beside_invoke c u _ k = tt
+  beside_invoke : {q : Bool} (u : Purpose) (e : Expr ℕ) (k : List Item) → Agrees q (λ h. invoke c h u e k)
+  beside_invoke u (expression.Call' f _ row) k = same _
+  beside_invoke u _ k = stops
 
-  beside_take : (c : Control) (h : Hand) (k : List Item) → On (take_value c a h k) (take_value c g h k)
-  beside_take c (returned (Some v)) k = same _
-  beside_take c (returned None) k = tt
-  beside_take c _ k = tt
+  beside_take : {q : Bool} (h : Hand) (k : List Item) → Agrees q (λ s. take_value c s h k)
+  beside_take (returned (Some v)) k = same _
+  beside_take (returned None) k = stops
+  beside_take _ k = stops
 
-  beside_drop : (c : Control) (h : Hand) (k : List Item) → On (drop_value c a h k) (drop_value c g h k)
-  beside_drop c (returned v) k = same _
-  beside_drop c _ k = tt
+  beside_drop : {q : Bool} (h : Hand) (k : List Item) → Agrees q (λ s. drop_value c s h k)
+  beside_drop (returned v) k = same _
+  beside_drop _ k = stops
 
-  beside_deliver : (c : Control) (h : Hand) (x : Destination) (k : List Item) → On (deliver_value c a h x k) (deliver_value c g h x k)
-  beside_deliver c (returned v) None k = same _
-  beside_deliver c (returned (Some v)) (Some x) k = beside_write c x.depth x.slot 0 None v k
-  beside_deliver c (returned None) (Some x) k = same _
-  beside_deliver c _ _ k = tt
+  beside_deliver : (h : Hand) (x : Destination) (k : List Item) → Agrees true (λ s. deliver_value c s h x k)
+  beside_deliver (returned v) None k = same _
+  beside_deliver (returned (Some v)) (Some x) k = beside_write x.depth x.slot 0 None v k
+  beside_deliver (returned None) (Some x) k = same _
+  beside_deliver _ _ k = stops
 
-  beside_other : (c : Control) (s : Option (Stmt ℕ)) (k : List Item) → On (do_other c a s k) (do_other c g s k)
-  beside_other c None k = same _
-  beside_other c (Some s) k = same _
+  beside_other : {q : Bool} (s : Option (Stmt ℕ)) (k : List Item) → Agrees q (λ h. do_other c h s k)
+  beside_other None k = same _
+  beside_other (Some s) k = same _
 
-  beside_fall : (c : Control) (f : Option (Function ℕ)) (k : List Item) → On (fall_off c a f k) (fall_off c g f k)
-  beside_fall c None k = tt
-  beside_fall c (Some f) k = beside_if f.gives _ _ _ _ (same _) (same _)
+  beside_fall : {q : Bool} (f : Option (Function ℕ)) (k : List Item) → Agrees q (λ h. fall_off c h f k)
+  beside_fall None k = stops
+  beside_fall (Some f) k = by_if f.gives _ _ (same _) (same _)
 
-  beside_leave : (c : Control) (k : Option (List Item)) → On (leave c a k) (leave c g k)
-  beside_leave c None = tt
-  beside_leave c (Some k) = same _
+  beside_leave : {q : Bool} (k : Option (List Item)) → Agrees q (λ h. leave c h k)
+  beside_leave None = stops
+  beside_leave (Some k) = same _
 
-  sum_zeroed : (d s n : ℕ) → are_held (a.words d s) n ≡ true → StackSum (clear_words a d s n) b (clear_words g d s n)
-  sum_zeroed d s n held_ = record {
-    words = λ e t j. elim (eqb_tells e d) [
-      | inr ne ↦ let x : (e == d) ≡ false = ne.0 in rw x (o.words e t j)
-      | inl one ↦ elim (eqb_tells t s) [
-        | inr ne ↦ let x : (e == d) ≡ true = one.0 in let y : (t == s) ≡ false = ne.0 in rw (x, y) (o.words e t j)
-        | inl two ↦ let x : (e == d) ≡ true = one.0 in let y : (t == s) ≡ true = two.0 in
-            by e t j (nat_lt j n) refl x y one.1 two.1
-      ]
-    ];
+  sum_zeroed : (d s n : ℕ) → ((i : ℕ) → i < n → b.words d s i ≡ absent) → StackSum (clear_words a d s n) b (clear_words g d s n)
+  sum_zeroed d s n none_ = record {
+    words = λ e t j. sum_new (e == d && (t == s && nat_lt j n)) (present (pos 0)) _ _ _ (λ q. let x = in_slot e d t s j n q in (λ k. b.words (x.0 k) (x.1 k) j) ∙ none_ j x.2) (o.words e t j);
     references = o.references;
   }
-    where
-      by : (e t j : ℕ) (q : Bool) → nat_lt j n ≡ q → (e == d) ≡ true → (t == s) ≡ true → e ≡ d → t ≡ s → CellSum ((clear_words a d s n).words e t j) (b.words e t j) ((clear_words g d s n).words e t j)
-      by e t j true l x y m r = let gone : b.words e t j ≡ absent = ap (λ q. b.words q t j) m ∙ ap (λ q. b.words d q j) r ∙ all_gone (a.words d s) (b.words d s) (g.words d s) n (o.words d s) held_ j l in
-          rw (x, y, l) (beside_new (present (pos 0)) (b.words e t j) gone)
-      by e t j false l x y m r = rw (x, y, l) (o.words e t j)
 
-  beside_declare : (c : Control) (x : ℕ) (z : Slot) (e : Option (Expr ℕ)) (more : List (items.Item ℕ)) (k : List Item) → On (declare_item c a x z e more k) (declare_item c g x z e more k)
-  beside_declare c x slot.Scalar None more k = beside_write c (top c.calls) x 0 None (pos 0) (declare more ∷ k)
-  beside_declare c x slot.Scalar (Some e) more k = same _
-  beside_declare c x (slot.Array n) e more k = by (are_held (a.words (top c.calls) x) n) refl
-    where
-      by : (q : Bool) → are_held (a.words (top c.calls) x) n ≡ q → On (declare_item c a x (slot.Array n) e more k) (declare_item c g x (slot.Array n) e more k)
-      by false l = rw l tt
-      by true l = let m : are_held (g.words (top c.calls) x) n ≡ true = same_all (a.words (top c.calls) x) (b.words (top c.calls) x) (g.words (top c.calls) x) n (o.words (top c.calls) x) l in rw (l, m) (λ u. (clear_words g (top c.calls) x n, refl, sum_zeroed (top c.calls) x n l))
-  beside_declare c x slot.Slice e more k = tt
+  beside_declare : (x : ℕ) (z : Slot) (e : Option (Expr ℕ)) (more : List (items.Item ℕ)) (k : List Item) → Agrees true (λ h. declare_item c h x z e more k)
+  beside_declare x slot.Scalar None more k = beside_write (top c.calls) x 0 None (pos 0) (declare more ∷ k)
+  beside_declare x slot.Scalar (Some e) more k = same _
+  beside_declare x (slot.Array n) e more k = by_all (top c.calls) x n _ (λ t. leaf (λ l u. (clear_words g (top c.calls) x n, refl, sum_zeroed (top c.calls) x n t)) tt)
+  beside_declare x slot.Slice e more k = stops
 
-  sum_parted : (d l r : ℕ) (x : Reference) (p : ℕ) → b.references d l ≡ absent → b.references d r ≡ absent → StackSum (write_parts a d l r x p) b (write_parts g d l r x p)
-  sum_parted d l r x p e f = record {
-    words = o.words;
-    references = λ t s. elim (eqb_tells t d) [
-      | inr ne ↦ let y : (t == d) ≡ false = ne.0 in rw y (o.references t s)
-      | inl one ↦ let y : (t == d) ≡ true = one.0 in elim (eqb_tells s r) [
-        | inl two ↦ let z : (s == r) ≡ true = two.0 in let gone : b.references t s ≡ absent = ap (λ q. b.references q s) one.1 ∙ ap (λ q. b.references d q) two.1 ∙ f in rw (y, z) (beside_new (present (record { depth = x.depth; slot = x.slot; start = x.start + p; length = x.length - p })) (b.references t s) gone)
-        | inr other ↦ let z : (s == r) ≡ false = other.0 in elim (eqb_tells s l) [
-          | inl two ↦ let w : (s == l) ≡ true = two.0 in let gone : b.references t s ≡ absent = ap (λ q. b.references q s) one.1 ∙ ap (λ q. b.references d q) two.1 ∙ e in rw (y, z, w) (beside_new (present (record { depth = x.depth; slot = x.slot; start = x.start; length = p })) (b.references t s) gone)
-          | inr ne ↦ let w : (s == l) ≡ false = ne.0 in rw (y, z, w) (o.references t s)
-        ]
-      ]
-    ];
+  sum_set : (h k : Stack) (d s : ℕ) (r : Reference) → b.references d s ≡ absent → StackSum h b k → StackSum (write_reference h d s r) b (write_reference k d s r)
+  sum_set h k d s r none_ z = record {
+    words = z.words;
+    references = λ e t. sum_new (e == d && t == s) (present r) _ _ _ (λ q. let x = and_true (e == d) (t == s) q in (λ k. b.references (eqb-true e d x.0 k) (eqb-true t s x.1 k)) ∙ none_) (z.references e t);
   }
 
   sum_popped : (n : ℕ) → IsUnder n b → StackSum (pop_frame a n) b (pop_frame g n)
   sum_popped n u = record {
-    words = λ d s i. elim (eqb_tells d n) [ inl one ↦ let x : (d == n) ≡ true = one.0 in rw x (sym (u.words d s i (omega (arith, one.1)))) | inr ne ↦ let x : (d == n) ≡ false = ne.0 in rw x (o.words d s i) ];
-    references = λ d s. elim (eqb_tells d n) [ inl one ↦ let x : (d == n) ≡ true = one.0 in rw x (sym (u.references d s (omega (arith, one.1)))) | inr ne ↦ let x : (d == n) ≡ false = ne.0 in rw x (o.references d s) ];
+    words = λ d s i. sum_new (d == n) absent _ _ _ (λ q. u.words d s i (omega (arith, eqb-true d n q))) (o.words d s i);
+    references = λ d s. sum_new (d == n) absent _ _ _ (λ q. u.references d s (omega (arith, eqb-true d n q))) (o.references d s);
   }
 
-  beside_end : (c : Control) (calls : List ℕ) (k : List Item) → On (end_call program page input c a calls k) (end_call program page input c g calls k)
-  beside_end c [] k = tt
-  beside_end c (f ∷ calls) k = λ u. (pop_frame g (length calls), refl, sum_popped (length calls) u)
+  beside_end : {q : Bool} (calls : List ℕ) (k : List Item) → Agrees q (λ h. end_call program page input c h calls k)
+  beside_end [] k = stops
+  beside_end (f ∷ calls) k = leaf (λ l u. (pop_frame g (length calls), refl, sum_popped (length calls) u)) tt
 
-  module _ (c : Control) (low : IsUnder (length c.calls) b) where
-    sum_pushed : (ws : List Argument) → StackSum (push_frame a (length c.calls) ws) b (push_frame g (length c.calls) ws)
-    sum_pushed ws = record {
-      words = λ d s i. elim (eqb_tells d (length c.calls)) [ inl one ↦ let x : (d == length c.calls) ≡ true = one.0 in rw x (beside_new (if i == 0 then word_parameter ws s else unset) (b.words d s i) (low.words d s i (omega (arith, one.1)))) | inr ne ↦ let x : (d == length c.calls) ≡ false = ne.0 in rw x (o.words d s i) ];
-      references = λ d s. elim (eqb_tells d (length c.calls)) [ inl one ↦ let x : (d == length c.calls) ≡ true = one.0 in rw x (beside_new (slice_parameter ws s) (b.references d s) (low.references d s (omega (arith, one.1)))) | inr ne ↦ let x : (d == length c.calls) ≡ false = ne.0 in rw x (o.references d s) ];
-    }
+  sum_pushed : IsUnder (length c.calls) b → (ws : List Argument) → StackSum (push_frame a (length c.calls) ws) b (push_frame g (length c.calls) ws)
+  sum_pushed low ws = record {
+    words = λ d s i. sum_new (d == length c.calls) (if i == 0 then word_parameter ws s else unset) _ _ _ (λ q. low.words d s i (omega (arith, eqb-true d (length c.calls) q))) (o.words d s i);
+    references = λ d s. sum_new (d == length c.calls) (slice_parameter ws s) _ _ _ (λ q. low.references d s (omega (arith, eqb-true d (length c.calls) q))) (o.references d s);
+  }
 
-    beside_frame : (f : ℕ) (ws : List Argument) (k : List Item) (z : Option (Function ℕ)) → On (push_call program page input c a f ws k z) (push_call program page input c g f ws k z)
-    beside_frame f ws k None = tt
-    beside_frame f ws k (Some z) = beside_if (nat_le (call_bytes_in page (Some z)) c.account) _ _ _ _ (λ u. (push_frame g (length c.calls) ws, refl, sum_pushed ws)) refl
+  beside_frame : {q : Bool} (f : ℕ) (ws : List Argument) (k : List Item) (z : Option (Function ℕ)) → Agrees q (λ h. push_call program page input c h f ws k z)
+  beside_frame f ws k None = stops
+  beside_frame f ws k (Some z) = by_if (nat_le (call_bytes_in page (Some z)) c.account) _ _ (leaf (λ l u. (push_frame g (length c.calls) ws, refl, sum_pushed l ws)) tt) (leaf (λ l. refl) tt)
 
-    beside_evaluate : (e : Expr ℕ) (k : List Item) → On (evaluate_step program page input c a e k) (evaluate_step program page input c g e k)
-    beside_evaluate (expression.Number n) k = same _
-    beside_evaluate (expression.Scalar x) k = beside_present _ _ _ _ _ (o.words (top c.calls) x.name 0) (λ v. same _)
-    beside_evaluate (Element p e) k = same _
-    beside_evaluate (expression.Len p) k = beside_slice c p.name _ _ (λ r. same _)
-    beside_evaluate (InputAt e) k = same _
-    beside_evaluate expression.Inputs k = same _
-    beside_evaluate (Prefixed p e) k = same _
-    beside_evaluate (Joined op.Both l r) k = same _
-    beside_evaluate (Joined op.Either l r) k = same _
-    beside_evaluate (Joined x l r) k = same _
-    beside_evaluate (expression.Call' f _ row) k = same _
+  beside_evaluate : {q : Bool} (e : Expr ℕ) (k : List Item) → Agrees q (λ h. evaluate_step program page input c h e k)
+  beside_evaluate (expression.Number n) k = same _
+  beside_evaluate (expression.Scalar x) k = by_word (top c.calls) x.name 0 _ (λ v. same _)
+  beside_evaluate (Element p e) k = same _
+  beside_evaluate (expression.Len p) k = by_slice p.name _ (λ r. same _)
+  beside_evaluate (InputAt e) k = same _
+  beside_evaluate expression.Inputs k = same _
+  beside_evaluate (Prefixed p e) k = same _
+  beside_evaluate (Joined op.Both l r) k = same _
+  beside_evaluate (Joined op.Either l r) k = same _
+  beside_evaluate (Joined x l r) k = same _
+  beside_evaluate (expression.Call' f _ row) k = same _
 
-    beside_statement : (s : Stmt ℕ) (k : List Item) → On (statement_step program page input c a s k) (statement_step program page input c g s k)
-    beside_statement statement.Empty k = same _
-    beside_statement (statement.Declare row) k = same _
-    beside_statement (statement.Assign (target.Scalar x) None e) k = same _
-    beside_statement (statement.Assign (target.Scalar x) (Some p) e) k = same _
-    beside_statement (statement.Assign (target.Index x place) p e) k = same _
-    beside_statement (statement.Call call) k = beside_invoke c called (expression.Call call) (discard ∷ k)
-    beside_statement (statement.Spawn at x call) k = beside_invoke c _ (expression.Call call) k
-    beside_statement (statement.Sync at) k = refl
-    beside_statement (IfAlone t s) k = same _
-    beside_statement (IfElse t s p) k = same _
-    beside_statement (WhileLoop t s) k = same _
-    beside_statement (ForLoop first t s p) k = same _
-    beside_statement (statement.Split' whole place l r _ row close) k = same _
-    beside_statement (statement.Return at None) k = same _
-    beside_statement (statement.Return at (Some e)) k = same _
-    beside_statement (statement.Print e) k = same _
-    beside_statement (statement.Block' _ row) k = same _
+  beside_statement : {q : Bool} (s : Stmt ℕ) (k : List Item) → Agrees q (λ h. statement_step program page input c h s k)
+  beside_statement statement.Empty k = same _
+  beside_statement (statement.Declare row) k = same _
+  beside_statement (statement.Assign (target.Scalar x) None e) k = same _
+  beside_statement (statement.Assign (target.Scalar x) (Some p) e) k = same _
+  beside_statement (statement.Assign (target.Index x place) p e) k = same _
+  beside_statement (statement.Call call) k = beside_invoke called (expression.Call call) (discard ∷ k)
+  beside_statement (statement.Spawn at x call) k = beside_invoke _ (expression.Call call) k
+  beside_statement (statement.Sync at) k = leaf (λ l. refl) tt
+  beside_statement (IfAlone t s) k = same _
+  beside_statement (IfElse t s p) k = same _
+  beside_statement (WhileLoop t s) k = same _
+  beside_statement (ForLoop first t s p) k = same _
+  beside_statement (statement.Split' whole place l r _ row close) k = same _
+  beside_statement (statement.Return at None) k = same _
+  beside_statement (statement.Return at (Some e)) k = same _
+  beside_statement (statement.Print e) k = same _
+  beside_statement (statement.Block' _ row) k = same _
 
-    beside_item : (i : Item) (k : List Item) → On (item_step program page input c a i k) (item_step program page input c g i k)
-    beside_item (evaluate e) k = beside_evaluate e k
-    beside_item (right x r) k = beside_value c.hand _ _ (λ v. same _)
-    beside_item (apply x l) k = beside_value c.hand _ _ (λ v. beside_result x (binary_value x l v) _ _ (λ w. same _))
-    beside_item (prefix x) k = beside_value c.hand _ _ (λ v. beside_some (unary_value x v) _ _ (λ w. same _))
-    beside_item (both r) k = beside_value c.hand _ _ (λ v. beside_if (is_zero v) _ _ _ _ (same _) (same _))
-    beside_item (either r) k = beside_value c.hand _ _ (λ v. beside_if (is_zero v) _ _ _ _ (same _) (same _))
-    beside_item truth k = beside_value c.hand _ _ (λ v. same _)
-    beside_item (element s) k = beside_value c.hand _ _ (λ v. beside_slice c s _ _ (λ r. beside_if (is_index v r.length) _ _ _ _ (beside_present _ _ _ _ _ (o.words r.depth r.slot (r.start + natural v)) (λ w. same _)) refl))
-    beside_item read k = beside_value c.hand _ _ (λ v. beside_if (is_index v (length input)) _ _ _ _ (beside_input c (slice_get input (natural v)) k) refl)
-    beside_item (arguments u f ws end_of-Arg) k = beside_call c u f ws k
-    beside_item (arguments u f ws (more_of-Arg (arg.Value e) more)) k = same _
-    beside_item (arguments u f ws (more_of-Arg (arg.Slice x) more)) k = beside_slice c x.name _ _ (λ r. same _)
-    beside_item (arguments u f ws (more_of-Arg (arg.Address x) more)) k = same _
-    beside_item (pass u f ws more) k = beside_value c.hand _ _ (λ v. same _)
-    beside_item take_back k = beside_take c c.hand k
-    beside_item discard k = beside_drop c c.hand k
-    beside_item (deliver x) k = beside_deliver c c.hand x k
-    beside_item (perform s) k = beside_statement s k
-    beside_item (sequence end_of-Stmt) k = same _
-    beside_item (sequence (more_of-Stmt s l)) k = same _
-    beside_item (body []) k = same _
-    beside_item (body (s ∷ l)) k = same _
-    beside_item (declare []) k = same _
-    beside_item (declare (x ∷ more)) k = beside_declare c x.name.name x.slot x.first more k
-    beside_item (assign x) k = beside_value c.hand _ _ (λ v. beside_write c (top c.calls) x 0 None v k)
-    beside_item (update x p) k = beside_value c.hand _ _ (λ v. beside_write c (top c.calls) x 0 (Some p) v k)
-    beside_item (locate s p e) k = beside_value c.hand _ _ (λ v. beside_slice c s _ _ (λ r. beside_if (is_index v r.length) _ _ _ _ (same _) refl))
-    beside_item (store s i p) k = beside_value c.hand _ _ (λ v. beside_slice c s _ _ (λ r. beside_write c r.depth r.slot (r.start + i) p v k))
-    beside_item (branch s p) k = beside_value c.hand _ _ (λ v. beside_if (is_zero v) _ _ _ _ (beside_other c p k) (same _))
-    beside_item (turn (Some t) s p) k = same _
-    beside_item (turn None s p) k = same _
-    beside_item (test t s p) k = beside_value c.hand _ _ (λ v. beside_if (is_zero v) _ _ _ _ (same _) (same _))
-    beside_item (part s l r row) k = beside_value c.hand _ _ (λ v. beside_slice c s _ _ (λ x. beside_if (is_split v x.length) _ _ _ _
-        (beside_held _ _ _ _ _ (o.references (top c.calls) l) (λ e. beside_held _ _ _ _ _ (o.references (top c.calls) r) (λ f u. (write_parts g (top c.calls) l r x (natural v), refl, sum_parted (top c.calls) l r x (natural v) e f))))
-        refl))
-    beside_item tick k = λ u. (g, refl, o)
-    beside_item show k = beside_value c.hand _ _ (λ v u. (g, refl, o))
-    beside_item exit k = beside_leave c (rest_at_join k)
-    beside_item fall k = beside_fall c (running_function program page input c.calls) k
-    beside_item join k = refl
-    beside_item end k = beside_end c c.calls k
+  beside_item : (i : Item) (k : List Item) → Agrees (writes_next (i ∷ k)) (λ h. item_step program page input c h i k)
+  beside_item (evaluate e) k = beside_evaluate e k
+  beside_item (right x r) k = by_value c.hand _ (λ v. same _)
+  beside_item (apply x l) k = by_value c.hand _ (λ v. by_result x (binary_value x l v) _ (λ w. same _))
+  beside_item (prefix x) k = by_value c.hand _ (λ v. by_some (unary_value x v) _ (λ w. same _))
+  beside_item (both r) k = by_value c.hand _ (λ v. by_if (is_zero v) _ _ (same _) (same _))
+  beside_item (either r) k = by_value c.hand _ (λ v. by_if (is_zero v) _ _ (same _) (same _))
+  beside_item truth k = by_value c.hand _ (λ v. same _)
+  beside_item (element s) k = by_value c.hand _ (λ v. by_slice s _ (λ r. by_if (is_index v r.length) _ _ (by_word r.depth r.slot (r.start + natural v) _ (λ w. same _)) (leaf (λ l. refl) tt)))
+  beside_item read k = by_value c.hand _ (λ v. by_if (is_index v (length input)) _ _ (beside_input (slice_get input (natural v)) k) (leaf (λ l. refl) tt))
+  beside_item (arguments u f ws end_of-Arg) k = beside_call u f ws k
+  beside_item (arguments u f ws (more_of-Arg (arg.Value e) more)) k = same _
+  beside_item (arguments u f ws (more_of-Arg (arg.Slice x) more)) k = by_slice x.name _ (λ r. same _)
+  beside_item (arguments u f ws (more_of-Arg (arg.Address x) more)) k = same _
+  beside_item (pass u f ws more) k = by_value c.hand _ (λ v. same _)
+  beside_item take_back k = beside_take c.hand k
+  beside_item discard k = beside_drop c.hand k
+  beside_item (deliver x) k = beside_deliver c.hand x k
+  beside_item (perform s) k = beside_statement s k
+  beside_item (sequence end_of-Stmt) k = same _
+  beside_item (sequence (more_of-Stmt s l)) k = same _
+  beside_item (body []) k = same _
+  beside_item (body (s ∷ l)) k = same _
+  beside_item (declare []) k = same _
+  beside_item (declare (x ∷ more)) k = beside_declare x.name.name x.slot x.first more k
+  beside_item (assign x) k = by_value c.hand _ (λ v. beside_write (top c.calls) x 0 None v k)
+  beside_item (update x p) k = by_value c.hand _ (λ v. beside_write (top c.calls) x 0 (Some p) v k)
+  beside_item (locate s p e) k = by_value c.hand _ (λ v. by_slice s _ (λ r. by_if (is_index v r.length) _ _ (same _) (leaf (λ l. refl) tt)))
+  beside_item (store s i p) k = by_value c.hand _ (λ v. by_slice s _ (λ r. beside_write r.depth r.slot (r.start + i) p v k))
+  beside_item (branch s p) k = by_value c.hand _ (λ v. by_if (is_zero v) _ _ (beside_other p k) (same _))
+  beside_item (turn (Some t) s p) k = same _
+  beside_item (turn None s p) k = same _
+  beside_item (test t s p) k = by_value c.hand _ (λ v. by_if (is_zero v) _ _ (same _) (same _))
+  beside_item (part s l r row) k = by_value c.hand _ (λ v. by_slice s _ (λ x. by_if (is_split v x.length) _ _
+      (by_set (top c.calls) l _ (λ e. by_set (top c.calls) r _ (λ f. leaf (λ l_ u. (write_parts g (top c.calls) l r x (natural v), refl, sum_set _ _ (top c.calls) r _ f (sum_set a g (top c.calls) l _ e o))) tt)))
+      (leaf (λ l. refl) tt)))
+  beside_item tick k = leaf (λ l u. (g, refl, o)) tt
+  beside_item show k = by_value c.hand _ (λ v. leaf (λ l u. (g, refl, o)) tt)
+  beside_item exit k = beside_leave (rest_at_join k)
+  beside_item fall k = beside_fall (running_function program page input c.calls) k
+  beside_item join k = leaf (λ l. refl) tt
+  beside_item end k = beside_end c.calls k
 
-    beside_step : (h : Hand) (k : List Item) → On (hand_step program page input c a h k) (hand_step program page input c g h k)
-    beside_step (entering f ws) k = λ u. (g, refl, o)
-    beside_step (framing f ws) k = beside_frame f ws k (slice_get program.functions f)
-    beside_step idle [] = tt
-    beside_step (holds v) [] = tt
-    beside_step (returned v) [] = refl
-    beside_step idle (i ∷ k) = beside_item i k
-    beside_step (holds v) (i ∷ k) = beside_item i k
-    beside_step (returned v) (i ∷ k) = beside_item i k
+  beside_step : (h : Hand) (k : List Item) → Agrees (writes_next k) (λ s. hand_step program page input c s h k)
+  beside_step (entering f ws) k = leaf (λ l u. (g, refl, o)) tt
+  beside_step (framing f ws) k = beside_frame f ws k (slice_get program.functions f)
+  beside_step idle [] = stops
+  beside_step (holds v) [] = stops
+  beside_step (returned v) [] = leaf (λ l. refl) tt
+  beside_step idle (i ∷ k) = beside_item i k
+  beside_step (holds v) (i ∷ k) = beside_item i k
+  beside_step (returned v) (i ∷ k) = beside_item i k
 
-    -- the law by which a child and a continuation do what the whole does
-    pub beside : On (step program page input c a) (step program page input c g)
-    beside = beside_step c.hand c.rest
+  agrees : Agrees (writes_next c.rest) (step program page input c)
+  agrees = beside_step c.hand c.rest
+
+  -- the law by which a child and a continuation do what the whole does
+  pub beside : IsUnder (length c.calls) b → IsBeside b (step program page input c a) (step program page input c g)
+  beside low = agrees.beside_ low
+
+  -- and the other way: where they have what is needed, they are stuck only where the whole is
+  pub goes_on : HasNeeded (writes_next c.rest) (step program page input c) a g → step program page input c a ≡ stuck → step program page input c g ≡ stuck
+  goes_on has e = agrees.goes has e

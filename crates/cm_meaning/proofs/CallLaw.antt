@@ -18,9 +18,10 @@ use Rattle.cm_syntax.specs.Fault.{parameter_slots}
 use Rattle.cm_syntax.specs.Trap as kind
 use Rattle.cm_meaning.specs.Meaning.{serial_step}
 use Rattle.cm_syntax.specs.Label.{silent, traps}
-use Rattle.cm_syntax.specs.Stack.{Cell, absent, unset, present, Reference, is_held, Stack, Argument, word, slice, pop_frame, push_frame}
+use Rattle.cm_syntax.specs.Cell.{may_write}
+use Rattle.cm_syntax.specs.Stack.{Reference, Stack, Argument, word, slice, pop_frame, push_frame}
 use Rattle.cm_syntax.specs.Rest as rest
-use Rattle.cm_syntax.specs.Step.{Move, top, rest_at_join, leave, hand_value, call_bytes_in, running_function, fall_off, hold, go_on, end_call, push_call, item_step, enter_call, when_held, scalar_slice, slice_in, slot_at}
+use Rattle.cm_syntax.specs.Step.{Move, top, rest_at_join, leave, hand_value, call_bytes_in, running_function, fall_off, hold, go_on, end_call, push_call, item_step, enter_call, scalar_slice, slice_in, slot_at}
 use Rattle.cm_meaning.specs.declared.evaluator.Evaluator.{Evaluator}
 use Rattle.cm_meaning.specs.declared.reference.Argument as declared
 use Rattle.cm_meaning.specs.declared.reference.Reference as declared_reference
@@ -38,6 +39,7 @@ use Rattle.cm_meaning.specs.Measure.{cilk_frames}
 use Rattle.cm_meaning.specs.Typing.{parameters_in, IsSetRow, TypedArguments, TypedFunction, TypedProgram}
 use Rattle.cm_meaning.specs.TypedState.{FitsParameter, FitParameters, AtHand, nothing, back, at_hand, Inner, Outer, Running, Calling, Ready}
 use Rattle.cm_meaning.specs.Layout.{reference_of, IsRowOf, slot_in, IsLaidOut, IsSamePlace, ShowsAfter, FitFrames, frames_words, TakesArguments, AreOfKinds, argument_of, program_in, calls_in, room_in, Shows}
+use Rattle.cm_syntax.proofs.AccessLaw.{writes_on}
 use Rattle.cm_meaning.proofs.EvaluatorLaw.{control_by, work_item, behind_work, control_at, work_move, elided, does_by, puts_does, kept_behind, same_run, control_behind, Inside, NotEnd, ready_inside, serial_move, row_there, row_at, slot_at_is, top_lives}
 use Rattle.cm_meaning.specs.Evaluator.{delivery, purpose_of, arguments_row, item_of, items_of, work_count, hand_of, hand_count, passed_in, control_with, control_in, IsKept, IsTypedAt, IsPlain, IsAtHand, IsReady, IsSameRun, Leads, Does, Steps, Puts}
 
@@ -651,11 +653,6 @@ back_other (hands.Framing f k) n = refl
 
 -- ---- the arguments of a call
 
-held_goes : (cell : Cell ℤ) (move : Move) → is_held cell ≡ true → when_held cell move ≡ move
-held_goes absent move e = cc e
-held_goes unset move e = refl
-held_goes (present v) move e = refl
-
 -- with no more of them the call is at hand
 pub enter_does : (old new : Evaluator) (u : Purpose) (f n : ℕ) (row : Bor (List (Arg ℕ))) (outcome : Outcome) → IsReady old (works.Arguments u f n row) → row.now ≡ []
     → outcome ≡ outcomes.Going → Puts old (delivery u (top (calls_in old.frames))) (hands.Entering f n) new → Does old (works.Arguments u f n row) outcome new
@@ -681,14 +678,14 @@ enter_does old new u f n row outcome ready none going puts = record {
     k : List rest.Item
     k = items_of (reverse old.rest.items) (drop n (passed_in old))
 
-    held : (h : Stack) (x : ℕ) → IsTypedAt old (control_with (works.Arguments u f n row ∷ []) old) h → is_held (h.words (top (calls_in old.frames)) x 0) ≡ true
+    held : (h : Stack) (x : ℕ) → IsTypedAt old (control_with (works.Arguments u f n row ∷ []) old) h → may_write (h.words (top (calls_in old.frames)) x 0) ≡ true
     held h x at = at.0.words (top (calls_in old.frames)) x 0 (top_lives old ready.0 h _ _ (ready_inside old (works.Arguments u f n row) old.hand h refl ready.1 tt at))
 
-    enters : (u : Purpose) (h : Stack) → ((x : ℕ) → is_held (h.words (top (calls_in old.frames)) x 0) ≡ true)
+    enters : (u : Purpose) (h : Stack) → ((x : ℕ) → may_write (h.words (top (calls_in old.frames)) x 0) ≡ true)
         → elided old h (enter_call here h (purpose_of u) f ws k) ≡ silent (control_by old (delivery u (top (calls_in old.frames))) (hands.Entering f n)) h
     enters purposes.Called h is = refl
     enters (purposes.Spawned None) h is = refl
-    enters (purposes.Spawned (Some x)) h is = ap (elided old h) (held_goes (h.words (top (calls_in old.frames)) x 0) _ (is x))
+    enters (purposes.Spawned (Some x)) h is = ap (elided old h) (writes_on (h.words (top (calls_in old.frames)) x 0) _ (is x))
 
 module _ (ev : Evaluator) (y : Hand) (u : Purpose) (f n : ℕ) (row more : Bor (List (Arg ℕ))) (h : Stack) where
   -- the step of the arguments, by the first that is to come

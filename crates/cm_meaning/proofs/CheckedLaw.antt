@@ -1,12 +1,13 @@
 -- A program that is sound and obeys the lending rule: no reached piece of it is stuck, so fork and join mean the elision.
-use Rattle.std.proofs.Common.{ap, sym, ◌∙◌, ◌≡◌, ℕ, ◌*◌, ◌≤◌, List, [], Option, Some, refl, subst, arith, inl, inr}
-use Rattle.std.specs.Prelude.{Bool, ℤ, ⊤, slice_get}
+use Rattle.std.proofs.Common.{ap, ◌≡◌, ℕ, ◌*◌, ◌≤◌, List, [], Option, Some, refl, subst, arith, inl, inr}
+use Rattle.std.specs.Prelude.{Bool, true, false, ◌⊎◌, ℤ, ⊤, slice_get}
 use Rattle.cm_syntax.specs.declared.stmt.Function.{Function}
 use Rattle.cm_syntax.specs.declared.stmt.Program.{Program}
 use Rattle.cm_syntax.specs.Evaluation.{function_order}
 use Rattle.cm_syntax.specs.Fault.{IsSoundProgram}
 use Rattle.cm_syntax.specs.Lending.{IsAccepted}
-use Rattle.cm_syntax.specs.Stack.{Stack, Destination, is_held, empty_stack}
+use Rattle.cm_syntax.specs.Cell.{Cell, absent, unset, present, shared, share_in, may_write, ComesBack}
+use Rattle.cm_syntax.specs.Stack.{Stack, Destination, empty_stack}
 use Rattle.cm_syntax.specs.Rest.{Control}
 use Rattle.cm_syntax.specs.Step.{step, inside}
 use Rattle.cm_meaning.specs.End.{End, Done}
@@ -25,7 +26,8 @@ use Rattle.cm_meaning.proofs.EndLaw.{one_end}
 use Rattle.cm_meaning.proofs.ForkMeaning.{fork_means}
 use Rattle.cm_meaning.proofs.ReachedMeaning.{fork_end, piece_ends, piece_bound, piece_pages}
 use Rattle.cm_meaning.proofs.GuardPieceLaw.{alone, OkayPiece, okay_goes, okay_child, not_stuck, note_returned}
-use Rattle.cm_meaning.proofs.LoanLaw.{Returned, held_present}
+use Rattle.cm_meaning.proofs.LoanLaw.{Returned}
+use Rattle.cm_meaning.specs.TypedState.{IsPresent}
 
 pub some_page : (page : ℕ) → IsPage page → 1 ≤ page
 some_page page (inl e) = omega (arith, e)
@@ -37,6 +39,29 @@ obeys : (program : Program) → IsAccepted program → (index : ℕ) (function :
 obeys program accepted index function e =
     let among = Contains-at program.functions index function e in
     obedient (function_order function) (λ walk w spawn variable at l. accepted.lent at spawn (function, among, (variable, (walk, w, l)))) (λ at d. accepted.same at (function, among, d))
+
+comes_same : {A : Type 0} (a b : Cell A) → b ≡ a → ComesBack a b
+comes_same absent b e = ap share_in e
+comes_same unset b e = ap share_in e
+comes_same (present v) b e = ap share_in e
+comes_same (shared p v) b e = e
+
+-- what changed was lent whole and comes back whole
+comes : {A : Type 0} (a b : Cell A) → (b ≡ a) ⊎ ((may_write a ≡ true) × IsPresent b) → ComesBack a b
+comes a b (inl e) = comes_same a b e
+comes absent b (inr e) = cc e.0
+comes unset absent (inr e) = absurd e.1
+comes unset unset (inr e) = refl
+comes unset (present w) (inr e) = refl
+comes unset (shared q w) (inr e) = absurd e.1
+comes (present v) absent (inr e) = absurd e.1
+comes (present v) unset (inr e) = refl
+comes (present v) (present w) (inr e) = refl
+comes (present v) (shared q w) (inr e) = absurd e.1
+comes (shared p v) b (inr e) = absurd (not_whole e.0)
+  where
+    not_whole : false ≡ true → ⊥
+    not_whole k = cc k
 
 module _ (program : Program) (input : List ℤ) (limits : Limits) (sound : IsSoundProgram program) (accepted : IsAccepted program) where
   abbrev First : Piece
@@ -61,7 +86,7 @@ module _ (program : Program) (input : List ℤ) (limits : Limits) (sound : IsSou
     sum = alone_ empty_stack;
     under = under_nothing 0;
     typed_ = typed_start program (limits.stack * limits.page) typed;
-    at = record { ghosts = []; going = refl; frames = tt; passes = tt };
+    at = record { ghosts = []; going = refl; frames = tt; passes = λ access. tt };
     kids = tt;
   }
 
@@ -96,13 +121,10 @@ module _ (program : Program) (input : List ℤ) (limits : Limits) (sound : IsSou
   -- a child that is Done gives back the words that it was lent
   pub given_back : (p : Piece) (d own : ℕ) (x : Destination) (joined : Bool) (ask : Ask) (r : Answer Control Stack Destination) → Reached program limits.page input First p → HasNote Control Stack Destination p.log (child d own x joined ask r)
       → (out : List ℤ) (v : Option ℤ) (n : ℕ) (w : Stack) → Fork program limits.page input (begun ask) (Done out v n) w → HoldSameCells ask.lent w
-  given_back p d own x joined ask r reached note out v n w f = record { words = λ e t j. same e t j; references = λ e t. ap is_held (sym (back.references e t)) }
+  given_back p d own x joined ask r reached note out v n w f = record { words = λ e t j. comes (ask.lent.words e t j) (w.words e t j) (back.words e t j); references = λ e t. comes_same (ask.lent.references e t) (w.references e t) (back.references e t) }
     where
       back : Returned ask.lent w
       back = note_returned program limits.page input typed (sound_sees program sound) (obeys program accepted) {p = p} (reached_fine p reached) note out v n w f
-
-      same : (e t j : ℕ) → is_held (ask.lent.words e t j) ≡ is_held (w.words e t j)
-      same e t j = elim (back.words e t j) [ inl q ↦ ap is_held (sym q) | inr q ↦ q.0 ∙ sym (held_present (w.words e t j) q.1) ]
 
   module _ (out : List ℤ) (v : Option ℤ) (n : ℕ) (serial : SerialEnd program input limits (Done out v n)) (p : Piece) (r : Reached program limits.page input First p) where
     pub checked_ends : (o : Own) → Stops program limits.page input p.start p.own p.control p.held p.log o → (p.control.rest ≡ []) × AllDone p.log

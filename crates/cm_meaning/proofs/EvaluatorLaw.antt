@@ -19,9 +19,10 @@ use Rattle.cm_syntax.specs.Frame.{slots_words, frame_words}
 use Rattle.cm_syntax.specs.Limit.{max_frame_words}
 use Rattle.cm_syntax.specs.Operator.{is_zero}
 use Rattle.cm_syntax.specs.Label.{silent, traps}
-use Rattle.cm_syntax.specs.Stack.{Cell, absent, unset, present, Reference, Stack, Destination}
+use Rattle.cm_syntax.specs.Cell.{Cell, absent, unset, present, shared}
+use Rattle.cm_syntax.specs.Stack.{Reference, Stack, Destination}
 use Rattle.cm_syntax.specs.Rest as rest
-use Rattle.cm_syntax.specs.Step.{Move, top, slots_in, slot_at, slice_in, when_present, item_step, step, inside, is_index}
+use Rattle.cm_syntax.specs.Step.{Move, top, slots_in, slot_at, slice_in, when_readable, item_step, step, inside, is_index}
 use Rattle.cm_meaning.specs.declared.evaluator.Evaluator.{Evaluator}
 use Rattle.cm_meaning.specs.declared.work.Hand.{Hand}
 use Rattle.cm_meaning.specs.declared.work.Hand.TheVariants as hands
@@ -286,6 +287,7 @@ pub present_value : {A : Type 0} (cell : Cell A) → IsPresent cell → (v : A) 
 present_value absent p = absurd p
 present_value unset p = absurd p
 present_value (present v) p = (v, refl)
+present_value (shared q v) p = absurd p
 
 -- ---- the words of a row are within a frame
 
@@ -338,7 +340,7 @@ module _ (program : Program) (h : Stack) (calls : List ℕ) (x : ℕ) (r : Refer
       let p = present_value (h.references (top calls) x) set in
       subst (RowAt program h calls (top calls) (Some slot.Slice) x) (sym (is p.0 p.1)) (record {
         fits = (refers (top calls) x p.0 p.1).1;
-        reads = λ goes_on. ap (λ c. when_present c goes_on) p.1;
+        reads = λ goes_on. ap (λ c. when_readable c goes_on) p.1;
         length = ap reference_length p.1;
       })
 

@@ -4,9 +4,9 @@ use Rattle.std.proofs.Common.{◌≡◌, ◌≢◌, ℕ, zero, suc, ◌+◌, ◌
 use Rattle.std.specs.Prelude.{◌⊎◌, Bool, true, false, ℤ, ⊤}
 use Rattle.cm_syntax.specs.Label.{Step, silent, ticks, prints, spawns, syncs, traps, ends, stuck}
 use Rattle.cm_meaning.specs.End.{End, Done, Trapped, Spent}
-use Rattle.cm_meaning.specs.Piece.{returns, fails, runs_out, Sum, going, trapped, spent, Capped, fits, passes, Decides, all_done, own_trap, own_spent, child_trap, child_spent, add_end, add_number, Ask, Answer, awaited, told, Note, printed, child, Piece, piece, begun, HasNote, here, log_sum, Counts, none, past, counted, AllTold, Fallen, by_trap, by_spent, later, Collects, before, other, taken, by_return, by_tick, by_sync, by_child, Goes, silently, ticking, showing, joining, parting, hearing, this, Fork, stops, goes}
+use Rattle.cm_meaning.specs.Piece.{returns, fails, runs_out, Sum, going, trapped, spent, Capped, fits, passes, Decides, all_done, own_trap, own_spent, child_trap, child_spent, add_end, add_number, Ask, Answer, awaited, told, Note, printed, child, Piece, piece, begun, HasNote, here, log_sum, Counts, none, past, counted, AllTold, Fallen, by_trap, by_spent, later, Collects, before, other, taken, by_return, by_tick, by_sync, by_child, Goes, silently, ticking, showing, joining, parting, hearing, returning, GivesBack, this, deeper, Fork, stops, goes}
 use Rattle.cm_meaning.proofs.ForkLaw as fork
-use Rattle.cm_meaning.proofs.ForkLaw.{Laws, Early, at_stop, at_silent, at_tick, at_print, at_join, at_part}
+use Rattle.cm_meaning.proofs.ForkLaw.{Laws, Early, at_stop, at_silent, at_tick, at_print, at_join, at_part, at_return}
 
 -- one of two numbers is at most the other, and two numbers are equal or not
 pub at_most : (a b : ℕ) → (a ≤ b) ⊎ (b < a)
@@ -20,8 +20,8 @@ equal_or a b = elim (at_most a b) [ inl l ↦ elim (at_most b a) [ inl m ↦ inl
 pub capped : (start n : ℕ) (e : End) → (d : End) × Capped start n e d
 capped start n e = elim (at_most n start) [ inl l ↦ (e, fits l) | inr l ↦ (Spent, passes l) ]
 
-module _ (Control Stack Destination : Type 0) (Joins : Stack → Stack → Stack → Type 0) (settle : Destination → Option ℤ → Stack → Stack) (depth : Control → ℕ) (step : Control → Stack → Step Control Stack Destination) (inside : Control → Destination → Control → Control) where
-  module _ (laws : Laws Control Stack Destination Joins settle depth step inside) where
+module _ (Control Stack Destination : Type 0) (Joins : Stack → Stack → Stack → Type 0) (TakesOut : (back rest given : Stack) → Type 0) (settle : Destination → Option ℤ → Stack → Stack) (depth : Control → ℕ) (step : Control → Stack → Step Control Stack Destination) (inside : Control → Destination → Control → Control) where
+  module _ (laws : Laws Control Stack Destination Joins TakesOut settle depth step inside) where
     open laws use {comm, assoc, floor, base, Good, good_step}
 
     abbrev Move : Type 0
@@ -34,31 +34,31 @@ module _ (Control Stack Destination : Type 0) (Joins : Stack → Stack → Stack
     SomePiece = Piece Control Stack Destination
 
     abbrev Meets : ℕ → Log → Stack → Log → Stack → Type 0
-    Meets = Collects Control Stack Destination Joins settle depth step
+    Meets = Collects Control Stack Destination Joins TakesOut settle depth step
 
     abbrev Owed : (low high : ℕ) → Log → Stack → Type 0
-    Owed = fork.Owed Control Stack Destination Joins settle depth step inside laws
+    Owed = fork.Owed Control Stack Destination Joins TakesOut settle depth step inside laws
 
     abbrev Follows : (c0 : Control) → (h0 : Stack) → (start own : ℕ) → Control → Stack → Log → Sum → Type 0
-    Follows = fork.Follows Control Stack Destination Joins settle depth step inside laws
+    Follows = fork.Follows Control Stack Destination Joins TakesOut settle depth step inside laws
 
     abbrev Sees : Control → Stack → ℕ → End → Stack → Type 0
-    Sees = fork.Sees Control Stack Destination Joins settle depth step inside laws
+    Sees = fork.Sees Control Stack Destination Joins TakesOut settle depth step inside laws
 
     abbrev Ends : (start own : ℕ) → Control → Stack → Log → End → Stack → Type 0
-    Ends = Early Control Stack Destination Joins settle depth step inside
+    Ends = Early Control Stack Destination Joins TakesOut settle depth step inside
 
     abbrev Forks : SomePiece → End → Stack → Type 0
-    Forks = Fork Control Stack Destination Joins settle depth step
+    Forks = Fork Control Stack Destination Joins TakesOut settle depth step
 
     abbrev Leads : SomePiece → SomePiece → Type 0
-    Leads = Goes Control Stack Destination Joins settle depth step
+    Leads = Goes Control Stack Destination Joins TakesOut settle depth step
 
     abbrev so : Log → Sum
     so = log_sum Control Stack Destination
 
     abbrev Falls : Sum → Type 0
-    Falls = fork.Falls Control Stack Destination Joins settle depth step inside laws
+    Falls = fork.Falls Control Stack Destination Joins TakesOut settle depth step inside laws
 
     abbrev Told : Log → Type 0
     Told = AllTold Control Stack Destination
@@ -115,6 +115,12 @@ module _ (Control Stack Destination : Type 0) (Joins : Stack → Stack → Stack
     abbrev call_of : Ask Control Stack Destination → SomePiece
     call_of = begun Control Stack Destination
 
+    back_told : {log more : Log} {h g : Stack} → GivesBack Control Stack Destination Joins TakesOut settle depth step log h more g → Told log → Told more
+    back_told (this y s) t = t
+    back_told (deeper {n = printed v} y) t = back_told y t
+    back_told (deeper {n = child d at x j q awaited} y) t = absurd t
+    back_told (deeper {n = child d at x j q (told e w)} y) t = back_told y t
+
     -- what is told at the spawn may as well come later
     pub later_on : {start own : ℕ} {c : Control} {h w : Stack} {log : Log} {e : End} → Told log → Ends start own c h log e w → Forks (new start own c h log) e w
     later_on t (at_stop s d g) = stops s t d g
@@ -123,6 +129,7 @@ module _ (Control Stack Destination : Type 0) (Joins : Stack → Stack → Stack
     later_on t (at_print e r) = goes (showing e) (later_on t r)
     later_on t (at_join e j k l r) = goes (joining e j k l) (later_on (joined_told j t) r)
     later_on t (at_part e k a r) = goes (parting e k) (goes (hearing (this (later_on tt a))) (later_on t r))
+    later_on t (at_return y r) = goes (returning y) (later_on (back_told y t) r)
 
     -- what acceptance gives: a judgement that the rules keep and that no stuck piece meets
     pub record Fine : Type 1 where
@@ -140,7 +147,7 @@ module _ (Control Stack Destination : Type 0) (Joins : Stack → Stack → Stack
       where
         by : (z : Sum) → so log ≡ z → Falls z → Finds start own c h log
         by (going out n) e never = absurd never
-        by (trapped out k n) e falls = let q = capped start n (Trapped out k n) in (q.0, h, at_stop (by_child f) (subst (λ z. Decides start own z runs_out q.0) (sym e) (child_trap q.1)) (fork.given_itself Control Stack Destination Joins settle depth step inside laws q.0 h))
+        by (trapped out k n) e falls = let q = capped start n (Trapped out k n) in (q.0, h, at_stop (by_child f) (subst (λ z. Decides start own z runs_out q.0) (sym e) (child_trap q.1)) (fork.given_itself Control Stack Destination Joins TakesOut settle depth step inside laws q.0 h))
         by spent e falls = (Spent, h, at_stop (by_child f) (subst (λ z. Decides start own z runs_out Spent) (sym e) child_spent) tt)
 
     -- a step but a tick leads to less weight; of a spawn both the child and the continuation
@@ -190,46 +197,46 @@ module _ (Control Stack Destination : Type 0) (Joins : Stack → Stack → Stack
       by_going : (left bound start own : ℕ) (c : Control) (h : Stack) (log : Log) (out : List ℤ) (n : ℕ) → At start own c h log → so log ≡ going out n → Counts Control Stack Destination log n → start ≤ own + n + left → weight c < suc bound
           → ((l : ℕ) → left ≡ suc l → (b : ℕ) → Goal l b) → Goal left bound → (x : Move) → step c h ≡ x → Lighter weight c x → Finds start own c h log
       by_going left bound start own c h log out n a is k l light fewer again (silent t g) e w =
-          let r = again start own t g log (record { call = a.call; lent = a.lent; follows = fork.follows_silent Control Stack Destination Joins settle depth step inside laws a.call a.lent start own log e (so log) a.follows; told_all = a.told_all; okay = goes_okay a.okay (silently e) }) (subst (λ z. Left start own left z) (sym is) l) (omega (arith, w, light)) in
+          let r = again start own t g log (record { call = a.call; lent = a.lent; follows = fork.follows_silent Control Stack Destination Joins TakesOut settle depth step inside laws a.call a.lent start own log e (so log) a.follows; told_all = a.told_all; okay = goes_okay a.okay (silently e) }) (subst (λ z. Left start own left z) (sym is) l) (omega (arith, w, light)) in
           (r.0, r.1, at_silent e r.2)
       by_going left bound start own c h log out n a is k l light fewer again (prints v t g) e w =
-          let r = again start own t g (printed v ∷ log) (record { call = a.call; lent = a.lent; follows = fork.follows_print Control Stack Destination Joins settle depth step inside laws a.call a.lent start own log e (so log) a.follows; told_all = a.told_all; okay = goes_okay a.okay (showing e) }) (left_on start own left v (so log) (subst (λ z. Left start own left z) (sym is) l)) (omega (arith, w, light)) in
+          let r = again start own t g (printed v ∷ log) (record { call = a.call; lent = a.lent; follows = fork.follows_print Control Stack Destination Joins TakesOut settle depth step inside laws a.call a.lent start own log e (so log) a.follows; told_all = a.told_all; okay = goes_okay a.okay (showing e) }) (left_on start own left v (so log) (subst (λ z. Left start own left z) (sym is) l)) (omega (arith, w, light)) in
           (r.0, r.1, at_print e r.2)
       by_going left bound start own c h log out n a is k l light fewer again (ticks t g) e w = elim (at_most start (own + n)) [
         | inl over ↦ (Spent, h, at_stop (by_tick e k over) (subst (λ z. Decides start own z runs_out Spent) (sym is) own_spent) tt)
         | inr fit ↦
             let p = one_less left (omega (arith, fit, l)) in
             let r = fewer p.0 p.1 (suc (weight t)) start (suc own) t g log
-            (record { call = a.call; lent = a.lent; follows = fork.follows_tick Control Stack Destination Joins settle depth step inside laws a.call a.lent start own log e (so log) a.follows; told_all = a.told_all; okay = goes_okay a.okay (ticking e k fit) })
+            (record { call = a.call; lent = a.lent; follows = fork.follows_tick Control Stack Destination Joins TakesOut settle depth step inside laws a.call a.lent start own log e (so log) a.follows; told_all = a.told_all; okay = goes_okay a.okay (ticking e k fit) })
             (subst (λ z. Left start (suc own) p.0 z) (sym is) (let q = p.1 in omega (arith, l, q))) (omega arith) in
             (r.0, r.1, at_tick e k fit r.2)
       ]
       by_going left bound start own c h log out n a is k l light fewer again (spawns call lent x t g) e w =
           let f = subst (λ z. Follows a.call a.lent start own c h log z) is a.follows in
-          let start_at : Follows call lent (start - (own + n)) 0 call lent [] (going [] 0) = fork.begins Control Stack Destination Joins settle depth step inside laws (record { start = start - (own + n); call = call; lent = lent }) (fork.step_good Control Stack Destination Joins settle depth step inside laws c h _ e f.6).0 in
+          let start_at : Follows call lent (start - (own + n)) 0 call lent [] (going [] 0) = fork.begins Control Stack Destination Joins TakesOut settle depth step inside laws (record { start = start - (own + n); call = call; lent = lent }) (fork.step_good Control Stack Destination Joins TakesOut settle depth step inside laws c h _ e f.6).0 in
           let y = again (start - (own + n)) 0 call lent [] (record { call = call; lent = lent; follows = start_at; told_all = tt; okay = child_okay (goes_okay a.okay (parting e k)) here }) (omega (arith, l)) (omega (arith, w.0, light)) in
-          let says = fork.means Control Stack Destination Joins settle depth step inside laws y.2 call lent start_at in
+          let says = fork.means Control Stack Destination Joins TakesOut settle depth step inside laws y.2 call lent start_at in
           let r = again start own t g (child (depth c) own x false (record { start = start - (own + n); call = call; lent = lent }) (told y.0 y.1) ∷ log)
-          (record { call = a.call; lent = a.lent; follows = fork.follows_part Control Stack Destination Joins settle depth step inside laws a.call a.lent start own log y.1 e k (so log) refl a.follows y.0 (λ z. says); told_all = a.told_all; okay = goes_okay (goes_okay a.okay (parting e k)) (hearing (this (later_on tt y.2))) })
+          (record { call = a.call; lent = a.lent; follows = fork.follows_part Control Stack Destination Joins TakesOut settle depth step inside laws a.call a.lent start own log y.1 e k (so log) refl a.follows y.0 (λ z. says); told_all = a.told_all; okay = goes_okay (goes_okay a.okay (parting e k)) (hearing (this (later_on tt y.2))) })
           (left_child start own left own y.0 (so log) (subst (λ z. Left start own left z) (sym is) l)) (omega (arith, w.1, light)) in
           (r.0, r.1, at_part {w = r.1} {e = r.0} e k y.2 r.2)
       by_going left bound start own c h log out n a is k l light fewer again (syncs t) e w =
           let f = subst (λ z. Follows a.call a.lent start own c h log z) is a.follows in
           let j = joins_exist (depth c) (base a.call) (floor c) log h f.0 f.1 f.3 f.4 in
-          let same_sofar : so j.0 ≡ going out n = fork.joined_sofar Control Stack Destination Joins settle depth step inside laws j.2 ∙ is in
+          let same_sofar : so j.0 ≡ going out n = fork.joined_sofar Control Stack Destination Joins TakesOut settle depth step inside laws j.2 ∙ is in
           let all : Counts Control Stack Destination j.0 n = subst (λ z. Complete j.0 z) same_sofar (complete j.0 (joined_told j.2 a.told_all)) in
           elim (at_most (own + n) start) [
             | inl fit ↦
                 let r = again start own t j.1 j.0
-                (record { call = a.call; lent = a.lent; follows = subst (λ z. Follows a.call a.lent start own t j.1 j.0 z) (sym (fork.joined_sofar Control Stack Destination Joins settle depth step inside laws j.2)) (fork.follows_join Control Stack Destination Joins settle depth step inside laws a.call a.lent start own e j.2 (so log) a.follows); told_all = joined_told j.2 a.told_all; okay = goes_okay a.okay (joining e j.2 all fit) })
+                (record { call = a.call; lent = a.lent; follows = subst (λ z. Follows a.call a.lent start own t j.1 j.0 z) (sym (fork.joined_sofar Control Stack Destination Joins TakesOut settle depth step inside laws j.2)) (fork.follows_join Control Stack Destination Joins TakesOut settle depth step inside laws a.call a.lent start own e j.2 (so log) a.follows); told_all = joined_told j.2 a.told_all; okay = goes_okay a.okay (joining e j.2 all fit) })
                 (subst (λ z. Left start own left z) (sym same_sofar) l) (omega (arith, w, light)) in
                 (r.0, r.1, at_join {w = r.1} {e = r.0} e j.2 all fit r.2)
             | inr over ↦ (Spent, h, at_stop (by_sync e j.2 all over) (subst (λ z. Decides start own z runs_out Spent) (sym is) own_spent) tt)
           ]
       by_going left bound start own c h log out n a is k l light fewer again (traps q) e w =
-          let d = capped start (own + n) (Trapped out q (own + n)) in (d.0, h, at_stop (by_trap e) (subst (λ z. Decides start own z (fails q) d.0) (sym is) (own_trap d.1)) (fork.given_itself Control Stack Destination Joins settle depth step inside laws d.0 h))
+          let d = capped start (own + n) (Trapped out q (own + n)) in (d.0, h, at_stop (by_trap e) (subst (λ z. Decides start own z (fails q) d.0) (sym is) (own_trap d.1)) (fork.given_itself Control Stack Destination Joins TakesOut settle depth step inside laws d.0 h))
       by_going left bound start own c h log out n a is k l light fewer again (ends v) e w =
-          let d = capped start (own + n) (Done out v (own + n)) in (d.0, h, at_stop (by_return e) (subst (λ z. Decides start own z (returns v) d.0) (sym is) (all_done d.1)) (fork.given_itself Control Stack Destination Joins settle depth step inside laws d.0 h))
+          let d = capped start (own + n) (Done out v (own + n)) in (d.0, h, at_stop (by_return e) (subst (λ z. Decides start own z (returns v) d.0) (sym is) (all_done d.1)) (fork.given_itself Control Stack Destination Joins TakesOut settle depth step inside laws d.0 h))
       by_going left bound start own c h log out n a is k l light fewer again stuck e w = absurd (not_stuck a.okay e)
 
       by_sofar : (left bound start own : ℕ) (c : Control) (h : Stack) (log : Log) → At start own c h log → weight c < suc bound → ((l : ℕ) → left ≡ suc l → (b : ℕ) → Goal l b) → Goal left bound
@@ -251,7 +258,7 @@ module _ (Control Stack Destination : Type 0) (Joins : Stack → Stack → Stack
 
       -- each piece of an accepted call has an end
       pub always : (q : Ask Control Stack Destination) → Good q.call q.lent → Okay (call_of q) → Finds q.start 0 q.call q.lent []
-      always q good okay = by_left q.start (suc (weight q.call)) q.start 0 q.call q.lent [] (record { call = q.call; lent = q.lent; follows = fork.begins Control Stack Destination Joins settle depth step inside laws q good; told_all = tt; okay = okay }) (omega arith) (omega arith)
+      always q good okay = by_left q.start (suc (weight q.call)) q.start 0 q.call q.lent [] (record { call = q.call; lent = q.lent; follows = fork.begins Control Stack Destination Joins TakesOut settle depth step inside laws q good; told_all = tt; okay = okay }) (omega arith) (omega arith)
 
       -- and so the rules lead to an end
       pub fork_end : (q : Ask Control Stack Destination) → Good q.call q.lent → Okay (call_of q) → (e : End) × (w : Stack) × Forks (call_of q) e w

@@ -14,9 +14,10 @@ use Rattle.cm_syntax.specs.declared.expr.Expr.TheVariants as expression
 use Rattle.cm_syntax.specs.Shape.{Joined, Binary-Joined, Unary-Prefixed, Index-Element, Input-InputAt}
 use Rattle.cm_syntax.specs.Label.{silent, traps}
 use Rattle.cm_syntax.specs.Limit.{max_frame_words}
-use Rattle.cm_syntax.specs.Stack.{Stack, Reference, present}
+use Rattle.cm_syntax.specs.Cell.{present}
+use Rattle.cm_syntax.specs.Stack.{Stack, Reference}
 use Rattle.cm_syntax.specs.Rest as rest
-use Rattle.cm_syntax.specs.Step.{top, slot_at, when_present, is_index, give_input, evaluate_step}
+use Rattle.cm_syntax.specs.Step.{top, slot_at, when_readable, is_index, give_input, evaluate_step}
 use Rattle.cm_meaning.specs.declared.evaluator.Evaluator.{Evaluator}
 use Rattle.cm_meaning.specs.declared.work.Purpose.TheVariants as purposes
 use Rattle.cm_meaning.specs.declared.work.Hand.{Hand}
@@ -94,7 +95,7 @@ module _ (ev : Evaluator) (e : Bor (Expr ℕ)) where
         let set = subst (TypedExpression ev.program.now.functions inside.function.slots inside.set) is inside.inner.0 in
         let w = scalar_value ev ready.0 h _ _ inside x.name set in
         let same : v ≡ w.0 = reads h w.0 at.1 (ap (λ d. h.words d x.name 0) is_top ∙ w.1) in
-        stepped _ is h ∙ ap (λ cell. when_present cell (λ v. silent (to_value v) h)) w.1 ∙ ap (λ v. silent (to_value v) h) (sym same)
+        stepped _ is h ∙ ap (λ cell. when_readable cell (λ v. silent (to_value v) h)) w.1 ∙ ap (λ v. silent (to_value v) h) (sym same)
 
     -- the row of a length
     row_of_length : (a : Mark ℕ) (r : Reference) → e.now ≡ expression.Len a
@@ -142,8 +143,8 @@ module _ (ev : Evaluator) (x : ℕ) (v : ℤ) (r : Reference) (ready : IsReady e
       let n = index_is v r.length within in
       let w = row_word_value ev h r here.fits (natural v) (omega (arith, n.2, ap natural n.1)) in
       let same : word ≡ w.0 = reads h w.0 typed.1 (ap (λ j. h.words r.depth r.slot (r.start + j)) at ∙ w.1) in
-      here.reads _ ∙ ap (λ b. if b then when_present (h.words r.depth r.slot (r.start + natural v)) (λ w. silent (to_value w) h) else traps kind.Index) within
-      ∙ ap (λ cell. when_present cell (λ w. silent (to_value w) h)) w.1 ∙ ap (λ w. silent (to_value w) h) (sym same)
+      here.reads _ ∙ ap (λ b. if b then when_readable (h.words r.depth r.slot (r.start + natural v)) (λ w. silent (to_value w) h) else traps kind.Index) within
+      ∙ ap (λ cell. when_readable cell (λ w. silent (to_value w) h)) w.1 ∙ ap (λ w. silent (to_value w) h) (sym same)
     where
       to_value : ℤ → rest.Control
       to_value w = rest.control (calls_in ev.frames) ev.account (rest.holds w) (behind_work ev (works.Element x))

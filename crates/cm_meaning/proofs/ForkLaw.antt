@@ -7,9 +7,9 @@ use Rattle.cm_syntax.specs.Trap.{Trap}
 use Rattle.cm_syntax.specs.Label.{Step, silent, ticks, prints, spawns, syncs, traps, ends, stuck}
 use Rattle.cm_meaning.specs.End.{End, Done, Trapped, Spent}
 use Rattle.cm_meaning.specs.Elision.{serial, serial_step, Comes, here, quiet, tick, show, Passes, EndsAs}
-use Rattle.cm_meaning.specs.Piece.{Own, returns, fails, runs_out, Sum, going, trapped, spent, Capped, fits, passes, Decides, all_done, own_trap, own_spent, child_trap, child_spent, add_end, add_number, Ask, Answer, awaited, told, Note, printed, child, Piece, begun, add_answer, log_sum, Counts, none, past, counted, skipped, AllTold, Fallen, by_trap, by_spent, later, Given, Collects, before, other, taken, Stops, by_return, by_tick, by_sync, by_child, Goes, silently, ticking, showing, joining, parting, hearing, Hears, this, deeper, Fork, stops, goes}
+use Rattle.cm_meaning.specs.Piece.{Own, returns, fails, runs_out, Sum, going, trapped, spent, Capped, fits, passes, Decides, all_done, own_trap, own_spent, child_trap, child_spent, add_end, add_number, Ask, Answer, awaited, told, Note, printed, child, Piece, begun, add_answer, log_sum, Counts, none, past, counted, skipped, AllTold, Fallen, by_trap, by_spent, later, Given, Collects, before, other, taken, Stops, by_return, by_tick, by_sync, by_child, Goes, silently, ticking, showing, joining, parting, hearing, returning, GivesBack, Hears, this, deeper, Fork, stops, goes}
 
-module _ (Control Stack Destination : Type 0) (Joins : Stack → Stack → Stack → Type 0) (settle : Destination → Option ℤ → Stack → Stack) (depth : Control → ℕ) (step : Control → Stack → Step Control Stack Destination) (inside : Control → Destination → Control → Control) where
+module _ (Control Stack Destination : Type 0) (Joins : Stack → Stack → Stack → Type 0) (TakesOut : (back rest given : Stack) → Type 0) (settle : Destination → Option ℤ → Stack → Stack) (depth : Control → ℕ) (step : Control → Stack → Step Control Stack Destination) (inside : Control → Destination → Control → Control) where
   abbrev Move : Type 0
   Move = Step Control Stack Destination
 
@@ -24,17 +24,19 @@ module _ (Control Stack Destination : Type 0) (Joins : Stack → Stack → Stack
 
   -- The rules of a piece, where each child's end is told at its spawn.
   pub data Early : (start own : ℕ) → Control → Stack → List (Note Control Stack Destination) → End → Stack → Type 0 where
-    at_stop : {start own : ℕ} {c : Control} {h w : Stack} {log : List (Note Control Stack Destination)} {o : Own} {e : End} → Stops Control Stack Destination Joins settle depth step start own c h log o
+    at_stop : {start own : ℕ} {c : Control} {h w : Stack} {log : List (Note Control Stack Destination)} {o : Own} {e : End} → Stops Control Stack Destination Joins TakesOut settle depth step start own c h log o
         → Decides start own (log_sum Control Stack Destination log) o e → Given Control Stack Destination e h w → Early start own c h log e w
     at_silent : {start own : ℕ} {c t : Control} {h g w : Stack} {log : List (Note Control Stack Destination)} {e : End} → step c h ≡ silent t g → Early start own t g log e w → Early start own c h log e w
     at_tick : {start own m : ℕ} {c t : Control} {h g w : Stack} {log : List (Note Control Stack Destination)} {e : End} → step c h ≡ ticks t g → Counts Control Stack Destination log m → own + m < start
         → Early start (suc own) t g log e w → Early start own c h log e w
     at_print : {start own : ℕ} {v : ℤ} {c t : Control} {h g w : Stack} {log : List (Note Control Stack Destination)} {e : End} → step c h ≡ prints v t g → Early start own t g (printed v ∷ log) e w → Early start own c h log e w
-    at_join : {start own m : ℕ} {c t : Control} {h g w : Stack} {log more : List (Note Control Stack Destination)} {e : End} → step c h ≡ syncs t → Collects Control Stack Destination Joins settle depth step (depth c) log h more g
+    at_join : {start own m : ℕ} {c t : Control} {h g w : Stack} {log more : List (Note Control Stack Destination)} {e : End} → step c h ≡ syncs t → Collects Control Stack Destination Joins TakesOut settle depth step (depth c) log h more g
         → Counts Control Stack Destination more m → own + m ≤ start → Early start own t g more e w → Early start own c h log e w
     at_part : {start own m : ℕ} {c t call : Control} {h g w lent answer : Stack} {x : Destination} {log : List (Note Control Stack Destination)} {e a : End} → step c h ≡ spawns call lent x t g → Counts Control Stack Destination log m
         → Early (start - (own + m)) 0 call lent [] a answer
         → Early start own t g (child (depth c) own x false (record { start = start - (own + m); call = call; lent = lent }) (told a answer) ∷ log) e w → Early start own c h log e w
+    at_return : {start own : ℕ} {c : Control} {h g w : Stack} {log more : List (Note Control Stack Destination)} {e : End} → GivesBack Control Stack Destination Joins TakesOut settle depth step log h more g
+        → Early start own c g more e w → Early start own c h log e w
 
   -- the same step beside words that it has no part in
   abbrev pub Beside : (room : Control → ℕ) → (Under : ℕ → Stack → Type 0) → Stack → Move → Move → Type 0
@@ -85,6 +87,10 @@ module _ (Control Stack Destination : Type 0) (Joins : Stack → Stack → Stack
     pub under_empty : (n : ℕ) → Under n empty
     pub under_more : {n m : ℕ} {a : Stack} → n ≤ m → Under n a → Under m a
     pub under_sum : {n : ℕ} {a b c : Stack} → Joins a b c → Under n a → Under n b → Under n c
+    -- shares that come back early
+    pub back_sum : {back rest given : Stack} → TakesOut back rest given → Joins back rest given
+    pub back_settle : {back rest given : Stack} (x : Destination) (v : Option ℤ) → TakesOut back rest given → TakesOut back (settle x v rest) (settle x v given)
+    pub back_under : {n : ℕ} {back rest given : Stack} → TakesOut back rest given → Under n given → Under n back × Under n rest
     pub room : Control → ℕ
     pub floor : Control → ℕ
     pub base : Control → ℕ
@@ -97,6 +103,7 @@ module _ (Control Stack Destination : Type 0) (Joins : Stack → Stack → Stack
     pub good_goes : (c : Control) (h : Stack) → Good c h → Keeps Good (serially c h)
     pub good_sync : {c t : Control} {h g : Stack} → Good c h → step c h ≡ syncs t → Good c g → Good t g
     pub good_add : {c t : Control} {h w g : Stack} (k : Stack) → Good c k → step c k ≡ syncs t → Good c h → Under (suc (depth c)) w → Joins h w g → Good c g
+    pub good_back : {c : Control} {h w g : Stack} → Good c h → Under (floor c) w → Joins h w g → Good c g
     -- states of a call whose return comes back to this continuation, and that hold its destination
     pub Above : Destination → Control → Control → Stack → Type 0
     pub above_spawn : {c t call : Control} {h g lent : Stack} {x : Destination} → Good c h → step c h ≡ spawns call lent x t g → Above x t call lent
@@ -125,7 +132,7 @@ module _ (Control Stack Destination : Type 0) (Joins : Stack → Stack → Stack
   goes_on (show e q) s = show e (goes_on q s)
 
   module _ (laws : Laws) where
-    open laws use {empty, Under, comm, assoc, same, nothing, under_empty, under_more, under_sum, room, floor, base, floor_room, base_room, beside, Good, good_step, good_goes, good_sync, good_add, Above, above_spawn, above_goes, moves, within, settle_under, returns_to}
+    open laws use {empty, Under, comm, assoc, same, nothing, under_empty, under_more, under_sum, back_sum, back_settle, back_under, room, floor, base, floor_room, base_room, beside, Good, good_step, good_goes, good_sync, good_add, good_back, Above, above_spawn, above_goes, moves, within, settle_under, returns_to}
 
     -- the unjoined children's words together
     abbrev pub Owed : (low high : ℕ) → Log → Stack → Type 0
@@ -166,7 +173,7 @@ module _ (Control Stack Destination : Type 0) (Joins : Stack → Stack → Stack
     owed_none b n (child d at x false q awaited ∷ log) o l h = absurd h
 
     abbrev Meets : ℕ → Log → Stack → Log → Stack → Type 0
-    Meets = Collects Control Stack Destination Joins settle depth step
+    Meets = Collects Control Stack Destination Joins TakesOut settle depth step
 
     pub joined_sofar : {d : ℕ} {log more : Log} {h g : Stack} → Meets d log h more g → log_sum Control Stack Destination more ≡ log_sum Control Stack Destination log
     joined_sofar none = refl
@@ -201,6 +208,31 @@ module _ (Control Stack Destination : Type 0) (Joins : Stack → Stack → Stack
     joined_good (other {r = told Spent w} ne j) P add b n o e p = absurd e
     joined_good (other {r = awaited} ne j) P add b n o e p = absurd e
     joined_good (taken {x = x} {v = v} u j) P add b n o e p = joined_good j P add b n e.0 e.1 (add _ _ _ p (settle_under x v e.5) u)
+
+    -- ---- shares that come back early
+    abbrev Back : Log → Stack → Log → Stack → Type 0
+    Back = GivesBack Control Stack Destination Joins TakesOut settle depth step
+
+    pub back_sofar : {log more : Log} {h g : Stack} → Back log h more g → log_sum Control Stack Destination more ≡ log_sum Control Stack Destination log
+    back_sofar (this y s) = refl
+    back_sofar (deeper {n = printed v} y) = ap (λ z. add_number z v) (back_sofar y)
+    back_sofar (deeper {n = child d o x j q r} y) = ap (λ z. add_answer Control Stack Destination z o r) (back_sofar y)
+
+    -- what comes back is owed no more
+    back_owed : {log more : Log} {h g : Stack} → Back log h more g → (b n : ℕ) (o : Stack) → Owed b n log o → (k : Stack) × Joins h k g × Under n k × (p : Stack) × Owed b n more p × Joins k p o
+    back_owed (this {x = x} {v = v} {back = back} y s) b n o w =
+        let u = back_under y w.5 in
+        let r = assoc (back_sum (back_settle x v y)) w.2 in
+        (back, s, under_more w.4 u.0, r.0, (w.0, w.1, r.1, w.3, w.4, u.1), r.2)
+    back_owed (deeper {n = printed v} y) b n o w = back_owed y b n o w
+    back_owed (deeper {n = child d at x true q r} y) b n o w = back_owed y b n o w
+    back_owed (deeper {n = child d at x false q (told (Done out v m) w)} y) b n o h =
+        let i = back_owed y b n h.0 h.1 in
+        let r = assoc i.5 (comm h.2) in
+        (i.0, i.1, i.2, r.0, (i.3, i.4, comm r.1, h.3, h.4, h.5), r.2)
+    back_owed (deeper {n = child d at x false q (told (Trapped out k m) w)} y) b n o h = absurd h
+    back_owed (deeper {n = child d at x false q (told Spent w)} y) b n o h = absurd h
+    back_owed (deeper {n = child d at x false q awaited} y) b n o h = absurd h
 
     -- ---- ticks of Done children
     abbrev Bounds : ℕ → Sum → Type 0
@@ -364,7 +396,7 @@ module _ (Control Stack Destination : Type 0) (Joins : Stack → Stack → Stack
     beside_at c h o u x e s d = subst (λ q. Beside room Under o q (step c u)) e (beside c h o u s (under_more (floor_room c) d))
 
     abbrev Halts : (start own : ℕ) → Control → Stack → Log → Own → Type 0
-    Halts = Stops Control Stack Destination Joins settle depth step
+    Halts = Stops Control Stack Destination Joins TakesOut settle depth step
 
     trap_of : {start own : ℕ} {c : Control} {h : Stack} {log : Log} {k : Trap} → Halts start own c h log (fails k) → step c h ≡ traps k
     trap_of (by_trap e) = e
@@ -455,6 +487,15 @@ module _ (Control Stack Destination : Type 0) (Joins : Stack → Stack → Stack
           (q.0, x.1, goes_on x.2 (ap (elided x.1) b), owed_more (base c0) (depth c) (floor t) more q.0 m.0 q.1, q.2, m.2 ∙ x.5, good_sync x.6 e (joined_good j (λ z. Good c z) (λ h w g p a y. good_add _ x.6 e p a y) (base c0) (floor c) x.0 x.3 x.6))
       follows_join start own e j (trapped out k n) x = x
       follows_join start own e j spent x = x
+
+      pub follows_back : (start own : ℕ) (c : Control) {h g : Stack} {log more : Log} → Back log h more g → (z : Sum) → Follows c0 h0 start own c h log z → Follows c0 h0 start own c g more z
+      follows_back start own c y (going out n) x =
+          let i = back_owed y (base c0) (floor c) x.0 x.3 in
+          let r = assoc (comm i.5) (comm x.4) in
+          let joined = same (comm r.1) i.1 in
+          (i.3, x.1, x.2, i.4, subst (λ q. Joins q i.3 x.1) joined (comm r.2), x.5, good_back x.6 i.2 i.1)
+      follows_back start own c y (trapped out k n) x = x
+      follows_back start own c y spent x = x
 
       pub follows_part : (start own : ℕ) (log : Log) (answer : Stack) {m : ℕ} {c t call : Control} {h g lent : Stack} {x : Destination} → step c h ≡ spawns call lent x t g → Counts Control Stack Destination log m
           → (z : Sum) → so log ≡ z → Follows c0 h0 start own c h log z → (a : End) → (Good call lent → Sees call lent (start - (own + m)) a answer)
@@ -549,6 +590,8 @@ module _ (Control Stack Destination : Type 0) (Joins : Stack → Stack → Stack
         means r c0 h0 (subst (λ z. Follows c0 h0 start own t g more z) (sym (joined_sofar j)) (follows_join c0 h0 start own e j (so log) f))
     means (at_part {start = start} {own = own} {call = call} {lent = lent} {answer = answer} {log = log} {a = a} e k early r) c0 h0 f =
         means r c0 h0 (follows_part c0 h0 start own log answer e k (so log) refl f a (λ w. means early call lent (empty, lent, count (omega arith) here, refl, nothing lent, refl, w)))
+    means (at_return {start = start} {own = own} {c = c} {g = g} {log = log} {more = more} y r) c0 h0 f =
+        means r c0 h0 (subst (λ z. Follows c0 h0 start own c g more z) (sym (back_sofar y)) (follows_back c0 h0 start own c y (so log) f))
 
     -- ---- an answer may as well be told at the spawn
     abbrev Told_ : Log → Type 0
@@ -583,17 +626,23 @@ module _ (Control Stack Destination : Type 0) (Joins : Stack → Stack → Stack
     joins_filled (other ne j) (filled_ e f) = let r = joins_filled j f in (_, filled_ e r.1, other ne r.2)
     joins_filled (taken s j) (kept_ f) = let r = joins_filled j f in (_, kept_ r.1, taken s r.2)
 
+    back_filled : {log more late : Log} {h g : Stack} → Back log h more g → Fills more late → (early : Log) × Fills log early × Back early h late g
+    back_filled (this y s) (kept_ f) = (_, kept_ f, this y s)
+    back_filled (deeper y) (number_ f) = let r = back_filled y f in (_, number_ r.1, deeper r.2)
+    back_filled (deeper y) (kept_ f) = let r = back_filled y f in (_, kept_ r.1, deeper r.2)
+    back_filled (deeper y) (filled_ e f) = let r = back_filled y f in (_, filled_ e r.1, deeper r.2)
+
     abbrev SomePiece : Type 0
     SomePiece = Piece Control Stack Destination
 
     abbrev Forks : SomePiece → End → Stack → Type 0
-    Forks = Fork Control Stack Destination Joins settle depth step
+    Forks = Fork Control Stack Destination Joins TakesOut settle depth step
 
     abbrev Leads : SomePiece → SomePiece → Type 0
-    Leads = Goes Control Stack Destination Joins settle depth step
+    Leads = Goes Control Stack Destination Joins TakesOut settle depth step
 
     abbrev Learns : Log → Log → Type 0
-    Learns = Hears Control Stack Destination Joins settle depth step
+    Learns = Hears Control Stack Destination Joins TakesOut settle depth step
 
     abbrev Soon : SomePiece → End → Stack → Type 0
     Soon p e w = (log : Log) × Fills p.log log × Ends p.start p.own p.control p.held log e w
@@ -623,6 +672,7 @@ module _ (Control Stack Destination : Type 0) (Joins : Stack → Stack → Stack
       backward (joining e j k l) r = let q = joins_filled j r.1 in (q.0, q.1, at_join e q.2 (counts_filled r.1 k) l r.2)
       backward (parting e k) r = after_spawn e k r.1 r.2
       backward (hearing h) r = (r.0, unheard h r.1, r.2)
+      backward (returning y) r = let q = back_filled y r.1 in (q.0, q.1, at_return q.2 r.2)
 
       unheard : {log more late : Log} → Learns log more → Fills more late → Fills log late
       unheard (this {q = q} f) (kept_ r) = filled_ (of_ask {q = q} (early f)) r

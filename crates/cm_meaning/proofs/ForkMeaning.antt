@@ -3,14 +3,14 @@ use Rattle.std.proofs.Common.{◌≡◌, ℕ, suc, ◌≤◌, List, [], ◌∷�
 use Rattle.std.specs.Prelude.{◌-◌, ◌*◌, ℤ}
 use Rattle.cm_syntax.specs.declared.stmt.Program.{Program}
 use Rattle.cm_syntax.specs.Label.{silent, ticks, prints, spawns, syncs, traps, ends, stuck}
-use Rattle.cm_syntax.specs.Stack.{Stack, Destination, StackSum, IsUnder, settle, empty_stack}
+use Rattle.cm_syntax.specs.Stack.{Stack, Destination, StackSum, SharesBack, IsUnder, settle, empty_stack}
 use Rattle.cm_syntax.specs.Rest.{Item, end, Control}
 use Rattle.cm_syntax.specs.Step.{Move, step, depth, frame_count, inside}
 use Rattle.cm_meaning.specs.End.{End}
 use Rattle.cm_meaning.specs.Meaning.{Limits, Ask, Fork, ForkEnd, SerialEnd, begun, main_ask, first_control, serial_step, EndsAs}
 use Rattle.cm_meaning.specs.Activation.{base, end_count, IsSettled}
 use Rattle.cm_meaning.specs.Law.{IsBeside, IsInside, arrival}
-use Rattle.cm_meaning.proofs.SumLaw.{comm, assoc, same, alone_, under_nothing, under_more, under_sum, settle_under}
+use Rattle.cm_meaning.proofs.SumLaw.{comm, assoc, same, alone_, under_nothing, under_more, under_sum, settle_under, back_sum, back_settle, back_under}
 use Rattle.cm_meaning.proofs.BesideLaw.{beside}
 use Rattle.cm_meaning.proofs.InsideLaw.{within}
 use Rattle.cm_meaning.proofs.EndLaw.{one_end}
@@ -35,7 +35,7 @@ module _ (program : Program) (page : ℕ) (input : List ℤ) where
   abbrev pub goes : Control → Stack → Move
   goes = serial_step program page input
 
-  pub beside_law : (b : Stack) (x y : Move) → IsBeside b x y → fork.Beside Control Stack Destination StackSum settle depth stepped inside frame_count IsUnder b x y
+  pub beside_law : (b : Stack) (x y : Move) → IsBeside b x y → fork.Beside Control Stack Destination StackSum SharesBack settle depth stepped inside frame_count IsUnder b x y
   beside_law b (silent t g) y f = f
   beside_law b (ticks t g) y f = f
   beside_law b (prints v t g) y f = f
@@ -45,7 +45,7 @@ module _ (program : Program) (page : ℕ) (input : List ℤ) where
   beside_law b (ends v) y f = f
   beside_law b stuck y f = f
 
-  pub inside_law : (x : Destination) (k : Control) (m : Option ℤ → Move) (y w : Move) → IsInside x k m y w → fork.Within Control Stack Destination StackSum settle depth stepped inside x k y w
+  pub inside_law : (x : Destination) (k : Control) (m : Option ℤ → Move) (y w : Move) → IsInside x k m y w → fork.Within Control Stack Destination StackSum SharesBack settle depth stepped inside x k y w
   inside_law x k m (silent t g) w f = f
   inside_law x k m (ticks t g) w f = f
   inside_law x k m (prints v t g) w f = f
@@ -55,7 +55,7 @@ module _ (program : Program) (page : ℕ) (input : List ℤ) where
   inside_law x k m (ends v) w f = tt
   inside_law x k m stuck w f = f
 
-  pub keeps_law : (P : Control → Stack → Type 0) (x : Move) → Keeps P x → fork.Keeps Control Stack Destination StackSum settle depth stepped inside P x
+  pub keeps_law : (P : Control → Stack → Type 0) (x : Move) → Keeps P x → fork.Keeps Control Stack Destination StackSum SharesBack settle depth stepped inside P x
   keeps_law P (silent t g) f = f
   keeps_law P (ticks t g) f = f
   keeps_law P (prints v t g) f = f
@@ -65,7 +65,7 @@ module _ (program : Program) (page : ℕ) (input : List ℤ) where
   keeps_law P (ends v) f = f
   keeps_law P stuck f = f
 
-  pub moves_law : (c : Control) (h : Stack) (x : Move) → Moves c h x → fork.Moves Control Stack Destination StackSum settle depth stepped inside base floor IsUnder c h x
+  pub moves_law : (c : Control) (h : Stack) (x : Move) → Moves c h x → fork.Moves Control Stack Destination StackSum SharesBack settle depth stepped inside base floor IsUnder c h x
   moves_law c h (silent t g) f = f
   moves_law c h (ticks t g) f = f
   moves_law c h (prints v t g) f = f
@@ -88,7 +88,7 @@ module _ (program : Program) (page : ℕ) (input : List ℤ) where
   spawned_above {c = c} {t = t} {call = call} {h = h} {lent = lent} {x = x} w e = let p = subst IsSpawned e (good_law program page input c h w).parts in
       record { idle_ = p.0; level = subst (λ q. IsLevel program page input x t q call.calls call.account) (sym p.1) (p.2, p.3); holds_ = p.4 }
 
-  unfoldable pub laws : fork.Laws Control Stack Destination StackSum settle depth stepped inside
+  unfoldable pub laws : fork.Laws Control Stack Destination StackSum SharesBack settle depth stepped inside
   laws = record {
     empty = empty_stack;
     Under = IsUnder;
@@ -99,6 +99,9 @@ module _ (program : Program) (page : ℕ) (input : List ℤ) where
     under_empty = under_nothing;
     under_more = under_more;
     under_sum = under_sum;
+    back_sum = back_sum;
+    back_settle = back_settle;
+    back_under = back_under;
     room = frame_count;
     floor = floor;
     base = base;
@@ -110,6 +113,7 @@ module _ (program : Program) (page : ℕ) (input : List ℤ) where
     good_goes = λ c h w. keeps_law IsSettled (goes c h) (good_law program page input c h w).goes_;
     good_sync = synced;
     good_add = added;
+    good_back = λ w low o. record { shape = w.shape; enough = w.enough; below = under_sum o w.below (under_more (floor_low _ _) low) };
     Above = IsAbove program page input;
     above_spawn = spawned_above;
     above_goes = λ x k c h a. keeps_law (IsAbove program page input x k) (goes c h) (above_goes program page input x k c h a);
@@ -121,7 +125,7 @@ module _ (program : Program) (page : ℕ) (input : List ℤ) where
 
   pub fork_means : (ask : Ask) (e : End) (w : Stack) → IsSettled ask.call ask.lent → Fork program page input (begun ask) e w → EndsAs program page input ask.call ask.lent ask.start e w
   unfolding laws
-  fork_means ask e w settled f = fork.forks_mean Control Stack Destination StackSum settle depth stepped inside laws ask e w settled f
+  fork_means ask e w settled f = fork.forks_mean Control Stack Destination StackSum SharesBack settle depth stepped inside laws ask e w settled f
 
 -- so a program has no other end than that of its elision
 pub fork_serial : (program : Program) (input : List ℤ) (limits : Limits) (e : End) → ForkEnd program input limits e → SerialEnd program input limits e

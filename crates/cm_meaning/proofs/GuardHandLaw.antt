@@ -11,17 +11,19 @@ use Rattle.cm_syntax.specs.Fault.{parameter_slots}
 use Rattle.cm_syntax.specs.Trap as kind
 use Rattle.cm_syntax.specs.Label.{silent, traps}
 use Rattle.cm_syntax.specs.Evaluation.{function_order, body_order}
-use Rattle.cm_syntax.specs.Stack.{Stack, Destination, Argument, word, slice, push_frame, pop_frame, is_held}
+use Rattle.cm_syntax.specs.Cell.{is_held}
+use Rattle.cm_syntax.specs.Stack.{Stack, Destination, Argument, word, slice, push_frame, pop_frame}
 use Rattle.cm_syntax.specs.Rest.{Item, store, deliver, body, fall, join, end, Hand, idle, holds, returned, entering, framing, control}
 use Rattle.cm_syntax.specs.Step.{Move, top, call_bytes_in, push_call, end_call, item_step, hand_step}
+use Rattle.cm_syntax.proofs.CellLaw.{not_held}
 use Rattle.cm_meaning.specs.Typing.{TypedProgram}
 use Rattle.cm_meaning.specs.TypedState.{IsReference, FitsParameter, FitParameters, Ready, TypedState, row_length}
 use Rattle.cm_meaning.specs.Visible.{Among, SeesProgram, SeesBody}
 use Rattle.cm_meaning.proofs.LendingLaw.{Obeys, more}
 use Rattle.cm_meaning.proofs.TypedFramesLaw.{IsPlain, slot_left}
-use Rattle.cm_meaning.proofs.GuardLaw.{names, Ghost, CoveredBy, Passes, Rest, slots_of, Chain, Going, Frames}
+use Rattle.cm_meaning.proofs.GuardLaw.{Access, names, Ghost, CoveredBy, Passes, Rest, slots_of, Chain, Going, Frames}
 use Rattle.cm_meaning.proofs.GuardStepLaw.{known_of, known_low, pushed_stand, guards_pushed}
-use Rattle.cm_meaning.proofs.GuardItemLaw.{At, Next, Runs, frames_less, ok_item, StoreFits}
+use Rattle.cm_meaning.proofs.GuardItemLaw.{Agrees, At, Next, Runs, frames_less, ok_item, StoreFits}
 
 -- the rest within the whole: the caller's stands behind it, if there is one
 abbrev pub Larger : List Item → List Item → Type 0
@@ -67,9 +69,9 @@ module _ (program : Program) (page : ℕ) (input : List ℤ) (typed : TypedProgr
         by (Some (slot.Array n)) p = p
         by None p = p
 
-    ok_push : (Away : (n e t j : ℕ) → Type 0) (calls : List ℕ) (account : ℕ) (hand : Hand) (all larger : List Item) (f : ℕ) (ws : List Argument) (k : List Item) (ghosts : List Ghost) (function : Function ℕ) → slice_get program.functions f ≡ Some function
-        → FitParameters program u calls ws (parameter_slots function) → length ws ≡ length (parameter_slots function) → Chain program calls ghosts k → Frames Away h.references calls ghosts → Passes (Away (length calls)) ws
-        → ((t j : ℕ) → Away (length calls) (length calls) t j → ⊥) → ((e t j : ℕ) → Away (suc (length calls)) e t j → Away (length calls) e t j)
+    ok_push : (Away : Access → (n e t j : ℕ) → Type 0) (calls : List ℕ) (account : ℕ) (hand : Hand) (all larger : List Item) (f : ℕ) (ws : List Argument) (k : List Item) (ghosts : List Ghost) (function : Function ℕ) → slice_get program.functions f ≡ Some function
+        → FitParameters program u calls ws (parameter_slots function) → length ws ≡ length (parameter_slots function) → Chain program calls ghosts k → Frames Away h.references calls ghosts → ((access : Access) → Passes (Away access (length calls)) ws)
+        → ((access : Access) (t j : ℕ) → Away access (length calls) (length calls) t j → ⊥) → ((access : Access) (e t j : ℕ) → Away access (suc (length calls)) e t j → Away access (length calls) e t j)
         → Next program Away u (control calls account hand all) h (push_call program page input (control calls account hand all) h f ws k (slice_get program.functions f))
     ok_push Away calls account hand all larger f ws k ghosts function is fit count chain frames passes new no_child =
         subst (λ z. Next program Away u (control calls account hand all) h (push_call program page input (control calls account hand all) h f ws k z)) (sym is) (by (nat_le (call_bytes_in page (Some function)) account))
@@ -105,9 +107,9 @@ module _ (program : Program) (page : ℕ) (input : List ℤ) (typed : TypedProgr
           ghosts = record { known = known_of ws; hidden = []; lent = [] } ∷ ghosts;
           going = rest;
           frames = (
-            guards_pushed Away n ws new no_child (λ e t j c q. passed_before calls ws (parameter_slots function) e t j fit c q) passes,
+            λ access. guards_pushed (Away access) n ws (new access) (no_child access) (λ e t j c q. passed_before calls ws (parameter_slots function) e t j fit c q) (passes access),
             pushed_stand h n ws,
-            frames_less Away Away h.references (push_frame h n ws).references calls ghosts (λ m e t j l a. a) others frames,
+            frames_less Away Away h.references (push_frame h n ws).references calls ghosts (λ access m e t j l a. a) others frames,
           );
           passes = tt;
         }
@@ -122,12 +124,12 @@ module _ (program : Program) (page : ℕ) (input : List ℤ) (typed : TypedProgr
     going_on (f ∷ calls) (g ∷ ghosts) v (end ∷ k) c = absurd c
     going_on (f ∷ calls) (g ∷ ghosts) v k c = c
 
-    ok_end : (Away : (n e t j : ℕ) → Type 0) (f : ℕ) (calls : List ℕ) (account : ℕ) (hand : Hand) (all k : List Item) (ghosts : List Ghost) → Chain program calls ghosts k → Frames Away h.references calls ghosts
+    ok_end : (Away : Access → (n e t j : ℕ) → Type 0) (f : ℕ) (calls : List ℕ) (account : ℕ) (hand : Hand) (all k : List Item) (ghosts : List Ghost) → Chain program calls ghosts k → Frames Away h.references calls ghosts
         → Next program Away u (control (f ∷ calls) account hand all) h (end_call program page input (control (f ∷ calls) account hand all) h (f ∷ calls) k)
     ok_end Away f calls account hand all k ghosts chain frames = record {
       ghosts = ghosts;
       going = going_on calls ghosts _ k chain;
-      frames = frames_less Away Away h.references (pop_frame h (length calls)).references calls ghosts (λ m e t j l a. a) others frames;
+      frames = frames_less Away Away h.references (pop_frame h (length calls)).references calls ghosts (λ access m e t j l a. a) others frames;
       passes = tt;
     }
       where
@@ -158,10 +160,10 @@ module _ (program : Program) (page : ℕ) (input : List ℤ) (typed : TypedProgr
     going_idle (f ∷ calls) (x ∷ ghosts) (holds v) p (_ ∷ k) g = g
     going_idle (f ∷ calls) (x ∷ ghosts) (returned v) p (_ ∷ k) g = g
 
-    module _ (Away : (n e t j : ℕ) → Type 0) (account : ℕ) (hand : Hand) (all larger : List Item) where
+    module _ (Away : Access → (n e t j : ℕ) → Type 0) (account : ℕ) (hand : Hand) (all larger : List Item) where
       -- the first item of a rest
       ok_first : (calls : List ℕ) (ghosts : List Ghost) → IsPlain hand → (i : Item) (k m : List Item) → Going program calls ghosts idle (i ∷ k) → Frames Away h.references calls ghosts
-          → ((e t j : ℕ) → is_held (u.words e t j) ≡ true → (Away (length calls) e t j → ⊥) → h.words e t j ≡ u.words e t j) → ((s : ℕ) → h.references (top calls) s ≡ u.references (top calls) s)
+          → Agrees (λ access. Away access (length calls)) h u → ((s : ℕ) → h.references (top calls) s ≡ u.references (top calls) s)
           → ((f : ℕ) (callers : List ℕ) → calls ≡ f ∷ callers → StoreFits program f (length callers) u i)
           → Runs (item_step program page input (control calls account hand larger) u i m) → Next program Away u (control calls account hand all) h (item_step program page input (control calls account hand all) h i k)
       ok_first [] [] p i k m g frames there rows fits n = absurd (cons_empty i k g)
@@ -180,7 +182,7 @@ module _ (program : Program) (page : ℕ) (input : List ℤ) (typed : TypedProgr
   store_fits u f callers (framing g ws) p (store x j o) m r = absurd p
   store_fits u f callers hand p _ m r = tt
 
-  module _ (h u : Stack) (Away : (n e t j : ℕ) → Type 0) (calls : List ℕ) (account : ℕ) where
+  module _ (h u : Stack) (Away : Access → (n e t j : ℕ) → Type 0) (calls : List ℕ) (account : ℕ) where
     -- a rest that is done without a value that came back
     not_ended : (hand : Hand) (larger : List Item) → Larger [] larger → ((x : Destination) (k : List Item) → Runs (hand_step program page input (control calls account hand (deliver x ∷ k)) u hand (deliver x ∷ k)) → ⊥)
         → (Runs (hand_step program page input (control calls account hand []) u hand []) → ⊥) → Runs (hand_step program page input (control calls account hand larger) u hand larger) → ⊥
@@ -195,7 +197,7 @@ module _ (program : Program) (page : ℕ) (input : List ℤ) (typed : TypedProgr
     run_item (framing f ws) p i m n = absurd p
 
     at_item : (hand : Hand) → IsPlain hand → (i : Item) (k larger : List Item) → Larger (i ∷ k) larger → At program Away (control calls account hand (i ∷ k)) h
-        → ((e t j : ℕ) → is_held (u.words e t j) ≡ true → (Away (length calls) e t j → ⊥) → h.words e t j ≡ u.words e t j) → ((s : ℕ) → h.references (top calls) s ≡ u.references (top calls) s)
+        → Agrees (λ access. Away access (length calls)) h u → ((s : ℕ) → h.references (top calls) s ≡ u.references (top calls) s)
         → TypedState program true (control calls account hand larger) u → Runs (hand_step program page input (control calls account hand larger) u hand larger)
         → Next program Away u (control calls account hand (i ∷ k)) h (item_step program page input (control calls account hand (i ∷ k)) h i k)
     at_item hand p i k larger l a there rows t n =
@@ -206,21 +208,16 @@ module _ (program : Program) (page : ℕ) (input : List ℤ) (typed : TypedProgr
 
     -- a step of the piece
     pub ok_step : (hand : Hand) (rest larger : List Item) → Larger rest larger → At program Away (control calls account hand rest) h
-        → ((e t j : ℕ) → is_held (u.words e t j) ≡ true → (Away (length calls) e t j → ⊥) → h.words e t j ≡ u.words e t j)
+        → Agrees (λ access. Away access (length calls)) h u
         → ((i : Item) (k : List Item) → rest ≡ i ∷ k → IsPlain hand → (s : ℕ) → h.references (top calls) s ≡ u.references (top calls) s)
-        → ((n e t j : ℕ) → Away n e t j → is_held (u.words e t j) ≡ true) → ((e t j : ℕ) → Away (suc (length calls)) e t j → Away (length calls) e t j)
+        → ((access : Access) (n e t j : ℕ) → Away access n e t j → is_held (u.words e t j) ≡ true) → ((access : Access) (e t j : ℕ) → Away access (suc (length calls)) e t j → Away access (length calls) e t j)
         → TypedState program true (control calls account hand larger) u → Runs (hand_step program page input (control calls account hand larger) u hand larger)
         → Next program Away u (control calls account hand rest) h (hand_step program page input (control calls account hand rest) h hand rest)
     ok_step (entering f ws) rest larger l a there rows held no_child t n = record { ghosts = a.ghosts; going = a.going; frames = a.frames; passes = a.passes }
     ok_step (framing f ws) rest larger l a there rows held no_child t n =
         let r = t.rest in
-        ok_push h u Away calls account (framing f ws) rest larger f ws rest a.ghosts r.0 r.1 r.2 r.3 a.going a.frames a.passes (λ s j away. none s j (held (length calls) (length calls) s j away)) no_child
-      where
-        none : (s j : ℕ) → is_held (u.words (length calls) s j) ≡ true → ⊥
-        none s j i = differ_ (sym (ap is_held (t.below.words (length calls) s j (omega arith))) ∙ i)
-          where
-            differ_ : false ≡ true → ⊥
-            differ_ e = cc e
+        ok_push h u Away calls account (framing f ws) rest larger f ws rest a.ghosts r.0 r.1 r.2 r.3 a.going a.frames a.passes
+        (λ access s j away. not_held (u.words (length calls) s j) (t.below.words (length calls) s j (omega arith)) (held access (length calls) (length calls) s j away)) no_child
     ok_step (returned v) [] larger l a there rows held no_child t n = tt
     ok_step idle [] larger l a there rows held no_child t n = absurd (not_ended idle larger l (λ x k z. z) (λ z. z) n)
     ok_step (holds v) [] larger l a there rows held no_child t n = absurd (not_ended (holds v) larger l (λ x k z. z) (λ z. z) n)

@@ -1,6 +1,6 @@
 -- A piece whose calls are guarded does each item as the whole does: what it reads and writes is its own.
 use Rattle.std.proofs.Common.{◌≡◌, ℕ, zero, suc, ◌+◌, ◌<◌, ◌≤◌, List, [], ◌∷◌, ◌++◌, length, Option, None, Some, refl, sym, ap, ◌∙◌, subst, arith, inl, inr}
-use Rattle.std.specs.Prelude.{Bool, true, false, ◌==◌, ◌&&◌, if◌then◌else◌, ℤ, pos, ⊤, slice_get}
+use Rattle.std.specs.Prelude.{Bool, true, false, ◌==◌, if◌then◌else◌, ℤ, pos, ⊤, slice_get}
 use Rattle.cm_syntax.specs.declared.expr.Op.{Op}
 use Rattle.cm_syntax.specs.declared.expr.Op.TheVariants as op
 use Rattle.cm_syntax.specs.declared.expr.Expr.{Expr}
@@ -22,16 +22,19 @@ use Rattle.cm_syntax.specs.Label.{silent, ticks, prints, spawns, syncs, traps, e
 use Rattle.cm_syntax.specs.Operator.{is_zero, natural, binary_value, divides, unary_value}
 use Rattle.cm_syntax.specs.Walk.{mentions, calls as call_event, spawns as spawn_event, Order, nothing, event, next, choice}
 use Rattle.cm_syntax.specs.Evaluation.{joined_order, slice_of, slices, row_slices, expression_order, row_order, argument_order, arguments_order, destination_order, destination_of, optional_order, items_order, rounds_order, statement_order, statements_order, body_order}
-use Rattle.cm_syntax.specs.Stack.{Cell, absent, unset, present, Reference, Stack, Scalar, Destination, Argument, word, slice, write_word, clear_words, write_parts, is_held, are_held, lends, lent_stack}
+use Rattle.cm_syntax.specs.Cell.{Cell, absent, value_in, may_write}
+use Rattle.cm_syntax.specs.Stack.{Reference, Stack, Scalar, Destination, Argument, word, slice, write_word, clear_words, write_parts, may_write_all, lent_stack, kept_stack}
 use Rattle.cm_syntax.specs.Rest.{Purpose, called, spawned, Item, evaluate, right, apply, prefix, both, either, truth, element, read, arguments, pass, take_back, discard, deliver, perform, sequence, body, declare, assign, update, locate, store, branch, turn, test, part, tick, show, exit, fall, join, end, Hand, idle, holds, returned, entering, framing, Control, control}
-use Rattle.cm_syntax.specs.Step.{Move, top, rest_at_join, scalar_slice, when_present, when_held, when_value, when_result, when_some, go_on, hold, write_step, leave, is_index, is_split, slice_in, destination_slot, invoke, spawn_call, enter_call, take_value, drop_value, declare_item, do_other, fall_off, running_function, when_slice, give_input, evaluate_step, statement_step, item_step}
+use Rattle.cm_syntax.specs.Step.{Move, top, rest_at_join, scalar_slice, when_readable, when_writable, when_value, when_result, when_some, go_on, hold, write_step, leave, is_index, is_split, slice_in, destination_slot, invoke, spawn_call, enter_call, take_value, drop_value, declare_item, do_other, fall_off, running_function, when_slice, give_input, evaluate_step, statement_step, item_step}
+use Rattle.cm_syntax.proofs.CellLaw.{valued}
+use Rattle.cm_syntax.proofs.AccessLaw.{reading, writing, reads_value, writes_on}
 use Rattle.cm_meaning.specs.TypedState.{row_length, reference_length}
 use Rattle.cm_meaning.specs.Visible.{Among, IsOpen, IsVisible, SeesExpression, SeesArguments, SeesOptional, SeesItem, SeesItems, SeesDestination, SeesStatement}
 use Rattle.cm_meaning.proofs.LendingLaw.{Distinct, Obeys, more, kept, round, endless, Calm, calm_more, calm_out}
 use Rattle.cm_meaning.proofs.TypedFramesLaw.{IsPlain, left_part, right_part}
 use Rattle.cm_meaning.proofs.ItemLaw.{index_within, split_within}
-use Rattle.cm_meaning.proofs.GuardLaw.{Named, names, Covers, StandsFor, Stand, Ghost, Guards, CoveredBy, Passes, Passed, onto, IsFree, Invokes, SeesPurpose, row_names, other_order, SeesOther, Closing, brace_order, AtJoin, Rest, to_join, slots_of, Chain, Going, Frames, PassesAt}
-use Rattle.cm_meaning.proofs.GuardStepLaw.{lends_covered, lends_true, onto_first, distinct_onto, refer_stands, With, guards_spawned, guards_less, named_word, passes_named, passes_less, split_known, split_covered, guards_split, guards_closed, stand_closed, stand_same, stand_split, other_number}
+use Rattle.cm_meaning.proofs.GuardLaw.{Access, reads, writes, Serves, Named, names, Covers, StandsFor, Stand, Ghost, Guards, Passes, Passed, onto, IsFree, Invokes, SeesPurpose, row_names, other_order, SeesOther, Closing, brace_order, AtJoin, Rest, to_join, slots_of, Chain, Going, Frames, PassesAt}
+use Rattle.cm_meaning.proofs.GuardStepLaw.{both_true, both_and, lent_serves, Takes, taken_true, onto_first, distinct_onto, refer_stands, With, guards_spawned, guards_less, named_word, passes_named, passes_less, split_known, split_covered, guards_split, guards_closed, stand_closed, stand_same, stand_split, other_number}
 
 -- ---- orders
 
@@ -112,44 +115,57 @@ row_of call = items_hidden-the_row-Arg-1 ℕ call.arguments
 -- ---- states
 
 -- A piece's state: its calls are guarded, and their rests obey the rule.
-pub record At (program : Program) (Away : (n e t j : ℕ) → Type 0) (c : Control) (h : Stack) : Type 0 where
+pub record At (program : Program) (Away : Access → (n e t j : ℕ) → Type 0) (c : Control) (h : Stack) : Type 0 where
   pub ghosts : List Ghost
   pub going : Going program c.calls ghosts c.hand c.rest
   pub frames : Frames Away h.references c.calls ghosts
   pub passes : PassesAt Away c.calls c.hand
 
--- what is held in the whole and not by a child
-abbrev pub Outside : (whole lent : Stack) → (e t j : ℕ) → Type 0
-Outside u lent e t j = (is_held (u.words e t j) ≡ true) × (is_held (lent.words e t j) ≡ false)
+-- What a piece has of the whole: the value of a word that isn't gone, and all of one that isn't lent.
+pub record Agrees (Away : Access → (e t j : ℕ) → Type 0) (h u : Stack) : Type 0 where
+  pub value : (e t j : ℕ) → (Away reads e t j → ⊥) → value_in (h.words e t j) ≡ value_in (u.words e t j)
+  pub cell : (e t j : ℕ) → (Away writes e t j → ⊥) → h.words e t j ≡ u.words e t j
+
+-- what serves the whole and not a child
+abbrev pub Outside : (whole lent : Stack) → Access → (e t j : ℕ) → Type 0
+Outside u lent access e t j = Serves access (u.words e t j) × (Serves access (lent.words e t j) → ⊥)
+
+-- what a spawn takes from the continuation
+abbrev pub Taken : (lent kept : Stack) → Access → (e t j : ℕ) → Type 0
+Taken lent kept access e t j = Takes access (lent.words e t j) (kept.words e t j)
+
+-- what is away behind the spawn
+abbrev pub Behind : (Away : Access → (n e t j : ℕ) → Type 0) → (depth : ℕ) → (lent kept : Stack) → Access → (n e t j : ℕ) → Type 0
+Behind Away depth lent kept access = With (Away access) depth (Taken lent kept access)
 
 -- a spawned call begins alone, with what it is passed
 pub record Begins (u : Stack) (c call : Control) (lent : Stack) : Type 0 where
   pub callee : ℕ
   pub given : List Argument
   pub is : call ≡ control c.calls c.account (entering callee given) []
-  pub passes : Passes (Outside u lent) given
+  pub passes : (access : Access) → Passes (Outside u lent access) given
   pub no_references : (d s : ℕ) → lent.references d s ≡ absent
 
 -- a call at a depth that waits for its children
-pub record Synced (program : Program) (Away : (n e t j : ℕ) → Type 0) (h : Stack) (at : ℕ) (t : Control) : Type 0 where
+pub record Synced (program : Program) (Away : Access → (n e t j : ℕ) → Type 0) (h : Stack) (at : ℕ) (t : Control) : Type 0 where
   pub function : ℕ
   pub callers : List ℕ
   pub ghost : Ghost
   pub ghosts : List Ghost
   pub calls_are : t.calls ≡ function ∷ callers
   pub depth_is : length callers ≡ at
-  pub guards : Guards Away (length callers) ghost
+  pub guards : (access : Access) → Guards (Away access) (length callers) ghost
   pub stand : Stand (h.references (length callers)) ghost.known
   pub frames : Frames Away h.references callers ghosts
   pub plain : IsPlain t.hand
   pub going : Going program (function ∷ callers) (record { known = ghost.known; hidden = ghost.hidden; lent = [] } ∷ ghosts) t.hand t.rest
 
--- what a step of such a state gives; `u` is the whole
-abbrev pub Next : Program → (Away : (n e t j : ℕ) → Type 0) → (u : Stack) → Control → Stack → Move → Type 0
+-- What a step of such a state gives; `u` is the whole. What is gone behind a spawn wasn't lent before it.
+abbrev pub Next : Program → (Away : Access → (n e t j : ℕ) → Type 0) → (u : Stack) → Control → Stack → Move → Type 0
 Next program Away u c h (silent t g) = At program Away t g
 Next program Away u c h (ticks t g) = At program Away t g
 Next program Away u c h (prints v t g) = At program Away t g
-Next program Away u c h (spawns call lent x t g) = At program (With Away (top c.calls) (λ e s j. is_held (lent.words e s j) ≡ true)) t g × Begins u c call lent
+Next program Away u c h (spawns call lent x t g) = At program (Behind Away (top c.calls) lent g) t g × Begins u c call lent × ((e s j : ℕ) → Taken lent g reads e s j → Away writes (suc (top c.calls)) e s j → ⊥)
 Next program Away u c h (syncs t) = Synced program Away h (top c.calls) t
 Next program Away u c h (traps k) = ⊤
 Next program Away u c h (ends v) = ⊤
@@ -165,23 +181,17 @@ abbrev pub StoreFits : Program → (f depth : ℕ) → Stack → Item → Type 0
 StoreFits program f depth u (store x j o) = j < row_length u depth x (slice_get (slots_of program f) x)
 StoreFits program f depth u _ = ⊤
 
-pub differ : false ≡ true → ⊥
-differ e = cc e
-
-pub held_of : {A : Type 0} (z : Cell A) (v : A) → z ≡ present v → is_held z ≡ true
-held_of z v e = ap is_held e
-
-pub frames_less : (Away Less : (n e t j : ℕ) → Type 0) (refs other : ℕ → ℕ → Cell Reference) (calls : List ℕ) (ghosts : List Ghost) → ((n e t j : ℕ) → n ≤ length calls → Less n e t j → Away n e t j)
+pub frames_less : (Away Less : Access → (n e t j : ℕ) → Type 0) (refs other : ℕ → ℕ → Cell Reference) (calls : List ℕ) (ghosts : List Ghost) → ((access : Access) (n e t j : ℕ) → n ≤ length calls → Less access n e t j → Away access n e t j)
     → ((d s : ℕ) → d < length calls → other d s ≡ refs d s) → Frames Away refs calls ghosts → Frames Less other calls ghosts
 frames_less Away Less refs other calls [] f r w = tt
 frames_less Away Less refs other [] (g ∷ ghosts) f r w = absurd w
 frames_less Away Less refs other (c ∷ calls) (g ∷ ghosts) f r w = (
-  guards_less Away Less (length calls) g (λ n e t j l. f n e t j l) w.0,
+  λ access. guards_less (Away access) (Less access) (length calls) g (λ n e t j l. f access n e t j l) (w.0 access),
   stand_same (refs (length calls)) (other (length calls)) g.known (λ s a. r (length calls) s (omega arith)) w.1,
-  frames_less Away Less refs other calls ghosts (λ n e t j l. f n e t j (omega (arith, l))) (λ d s l. r d s (omega (arith, l))) w.2,
+  frames_less Away Less refs other calls ghosts (λ access n e t j l. f access n e t j (omega (arith, l))) (λ d s l. r d s (omega (arith, l))) w.2,
 )
 
-module _ (program : Program) (page : ℕ) (input : List ℤ) (f : ℕ) (callers : List ℕ) (account : ℕ) (hand : Hand) (all larger : List Item) (h u : Stack) (Away : (n e t j : ℕ) → Type 0) (ghosts : List Ghost) where
+module _ (program : Program) (page : ℕ) (input : List ℤ) (f : ℕ) (callers : List ℕ) (account : ℕ) (hand : Hand) (all larger : List Item) (h u : Stack) (Away : Access → (n e t j : ℕ) → Type 0) (ghosts : List Ghost) where
   -- the state, the same within the whole, and what a step gives
   abbrev c : Control
   c = control (f ∷ callers) account hand all
@@ -215,8 +225,8 @@ module _ (program : Program) (page : ℕ) (input : List ℤ) (f : ℕ) (callers 
   no_passes (entering l ws) p = absurd p
   no_passes (framing l ws) p = absurd p
 
-  module _ (there : (e t j : ℕ) → is_held (u.words e t j) ≡ true → (Away (suc depth) e t j → ⊥) → h.words e t j ≡ u.words e t j) (rows : (s : ℕ) → h.references depth s ≡ u.references depth s)
-      (frames : Frames Away h.references callers ghosts) (known : List Named) (hidden lent : List ℕ) (guards : Guards Away depth (record { known = known; hidden = hidden; lent = lent })) (stand : Stand (h.references depth) known) where
+  module _ (there : Agrees (λ access. Away access (suc depth)) h u) (rows : (s : ℕ) → h.references depth s ≡ u.references depth s)
+      (frames : Frames Away h.references callers ghosts) (known : List Named) (hidden lent : List ℕ) (guards : (access : Access) → Guards (Away access) depth (record { known = known; hidden = hidden; lent = lent })) (stand : Stand (h.references depth) known) where
     abbrev ghost : Ghost
     ghost = record { known = known; hidden = hidden; lent = lent }
 
@@ -233,24 +243,24 @@ module _ (program : Program) (page : ℕ) (input : List ℤ) (f : ℕ) (callers 
 
     -- ---- what the whole has, the piece has
 
-    free_own : (x j : ℕ) → IsOpen hidden x → (Among lent x → ⊥) → Away (suc depth) depth x j → ⊥
-    free_own x j o l = guards.free x depth x j o l (inl (refl, refl))
+    free_own : (x j : ℕ) → IsOpen hidden x → (Among lent x → ⊥) → (access : Access) → Away access (suc depth) depth x j → ⊥
+    free_own x j o l access = (guards access).free x depth x j o l (inl (refl, refl))
 
-    ok_word : (e t j : ℕ) (p q : ℤ → Move) → (Away (suc depth) e t j → ⊥) → ((v : ℤ) → Runs (q v) → Ok (p v)) → Runs (when_present (u.words e t j) q) → Ok (when_present (h.words e t j) p)
-    ok_word e t j p q a go = by (u.words e t j) refl
-      where
-        by : (z : Cell ℤ) → u.words e t j ≡ z → Runs (when_present z q) → Ok (when_present (h.words e t j) p)
-        by absent i n = absurd n
-        by unset i n = absurd n
-        by (present v) i n = subst (λ z. Ok (when_present z p)) (sym (there e t j (held_of (u.words e t j) v i) a ∙ i)) (go v n)
+    serves_here : (access : Access) (e t j : ℕ) → (Away access (suc depth) e t j → ⊥) → Serves access (u.words e t j) → Serves access (h.words e t j)
+    serves_here reads e t j a s = (s.0, there.value e t j a ∙ s.1)
+    serves_here writes e t j a s = ap may_write (there.cell e t j a) ∙ s
 
-    ok_held : (e t j : ℕ) (p q : Move) → (Away (suc depth) e t j → ⊥) → (Runs q → Ok p) → Runs (when_held (u.words e t j) q) → Ok (when_held (h.words e t j) p)
-    ok_held e t j p q a go = by (u.words e t j) refl
-      where
-        by : (z : Cell ℤ) → u.words e t j ≡ z → Runs (when_held z q) → Ok (when_held (h.words e t j) p)
-        by absent i n = absurd n
-        by unset i n = subst (λ z. Ok (when_held z p)) (sym (there e t j (ap is_held i) a ∙ i)) (go n)
-        by (present v) i n = subst (λ z. Ok (when_held z p)) (sym (there e t j (ap is_held i) a ∙ i)) (go n)
+    ok_readable : {A : Type 0} (a b : Cell A) (p q : A → Move) → value_in a ≡ value_in b → ((v : A) → value_in b ≡ Some v → Runs (q v) → Ok (p v)) → Runs (when_readable b q) → Ok (when_readable a p)
+    ok_readable a b p q same go = reading (λ m. Runs m → Ok (when_readable a p)) (λ n. absurd n) b q (λ v e n. subst Ok (sym (reads_value a v p (same ∙ e))) (go v e n))
+
+    ok_writable : {A : Type 0} (a b : Cell A) (p q : Move) → (may_write b ≡ true → may_write a ≡ true) → (Runs q → Ok p) → Runs (when_writable b q) → Ok (when_writable a p)
+    ok_writable a b p q same go = writing (λ m. Runs m → Ok (when_writable a p)) (λ n. absurd n) b q (λ e n. subst Ok (sym (writes_on a p (same e))) (go n))
+
+    ok_word : (e t j : ℕ) (p q : ℤ → Move) → (Away reads (suc depth) e t j → ⊥) → ((v : ℤ) → Runs (q v) → Ok (p v)) → Runs (when_readable (u.words e t j) q) → Ok (when_readable (h.words e t j) p)
+    ok_word e t j p q a go = ok_readable (h.words e t j) (u.words e t j) p q (there.value e t j a) (λ v i. go v)
+
+    ok_held : (e t j : ℕ) (p q : Move) → (Away writes (suc depth) e t j → ⊥) → (Runs q → Ok p) → Runs (when_writable (u.words e t j) q) → Ok (when_writable (h.words e t j) p)
+    ok_held e t j p q a = ok_writable (h.words e t j) (u.words e t j) p q (serves_here writes e t j a)
 
     ok_value : (p q : ℤ → Move) → ((v : ℤ) → Runs (q v) → Ok (p v)) → Runs (when_value hand q) → Ok (when_value hand p)
     ok_value p q go = by hand
@@ -287,40 +297,34 @@ module _ (program : Program) (page : ℕ) (input : List ℤ) (f : ℕ) (callers 
         own : (n e t j : ℕ) → Covers (record { depth = depth; slot = x; start = 0; length = n }) e t j → StandsFor depth known x e t j
         own n e t j o = inl (o.depth, o.slot)
 
-        at_slice : (z : Cell Reference) → u.references depth x ≡ z → slice_get (slots_of program f) x ≡ Some slot.Slice
-            → ((r : Reference) → ((e t j : ℕ) → Covers r e t j → StandsFor depth known x e t j) → r.length ≡ reference_length (u.references depth x) → Runs (q r) → Ok (p r)) → Runs (when_present z q) → Ok (when_present (h.references depth x) p)
-        at_slice absent i s go n = absurd n
-        at_slice unset i s go n = absurd n
-        at_slice (present r) i s go n =
-            let here : h.references depth x ≡ present r = rows x ∙ i in
-            subst (λ z. Ok (when_present z p)) (sym here) (go r (λ e t j o. inr (refer_stands (h.references depth) known x e t j r stand here (v.named s) o)) (ap reference_length (sym i)) n)
+        at_slice : slice_get (slots_of program f) x ≡ Some slot.Slice → ((r : Reference) → ((e t j : ℕ) → Covers r e t j → StandsFor depth known x e t j) → r.length ≡ reference_length (u.references depth x) → Runs (q r) → Ok (p r))
+            → Runs (when_readable (u.references depth x) q) → Ok (when_readable (h.references depth x) p)
+        at_slice s go = ok_readable (h.references depth x) (u.references depth x) p q (ap value_in (rows x))
+            (λ r i. go r (λ e t j o. inr (refer_stands (h.references depth) known x e t j r stand (ap value_in (rows x) ∙ i) (v.named s) o)) (valued (λ z. r.length ≡ reference_length z) r refl (λ p. refl) (u.references depth x) i))
 
         by : (z : Option Slot) → slice_get (slots_of program f) x ≡ z → ((r : Reference) → ((e t j : ℕ) → Covers r e t j → StandsFor depth known x e t j) → r.length ≡ row_length u depth x z → Runs (q r) → Ok (p r))
             → Runs (slice_in (f ∷ callers) u z x q) → Ok (slice_in (f ∷ callers) h z x p)
         by None i go n = absurd n
         by (Some slot.Scalar) i go n = go (scalar_slice depth x) (own 1) refl n
         by (Some (slot.Array m)) i go n = go _ (own m) refl n
-        by (Some slot.Slice) i go n = at_slice (u.references depth x) refl i go n
+        by (Some slot.Slice) i go n = at_slice i go n
 
     -- what is written
-    ok_write : (e t j : ℕ) (o : Option Op) (v : ℤ) (k m : List Item) → (Away (suc depth) e t j → ⊥) → R k known hidden lent → Runs (write_step w u e t j o v m) → Ok (write_step c h e t j o v k)
-    ok_write e t j None v k m a r n = ok_held e t j _ _ a (λ n. stays idle k (write_word h e t j v).words tt r) n
-    ok_write e t j (Some o) v k m a r n = ok_word e t j _ _ a (λ old n. ok_result o (binary_value o old v) _ _ (λ s n. stays idle k (write_word h e t j s).words tt r) n) n
+    ok_write : (e t j : ℕ) (o : Option Op) (v : ℤ) (k m : List Item) → ((access : Access) → Away access (suc depth) e t j → ⊥) → R k known hidden lent → Runs (write_step w u e t j o v m) → Ok (write_step c h e t j o v k)
+    ok_write e t j None v k m a r n = ok_held e t j _ _ (a writes) (λ n. stays idle k (write_word h e t j v).words tt r) n
+    ok_write e t j (Some o) v k m a r n = ok_held e t j _ _ (a writes) (λ n. ok_word e t j _ _ (a reads) (λ old n. ok_result o (binary_value o old v) _ _ (λ s n. stays idle k (write_word h e t j s).words tt r) n) n) n
 
-    ok_array : (x n : ℕ) → IsOpen hidden x → (Among lent x → ⊥) → are_held (u.words depth x) n ≡ true → are_held (h.words depth x) n ≡ true
+    ok_array : (x n : ℕ) → IsOpen hidden x → (Among lent x → ⊥) → may_write_all (u.words depth x) n ≡ true → may_write_all (h.words depth x) n ≡ true
     ok_array x zero o l i = refl
-    ok_array x (suc n) o l i = by (ok_array x n o l) (is_held (u.words depth x n)) (is_held (h.words depth x n)) refl refl i
-      where
-        by : (are_held (u.words depth x) n ≡ true → are_held (h.words depth x) n ≡ true) → (a b : Bool) → is_held (u.words depth x n) ≡ a → is_held (h.words depth x n) ≡ b → (a && are_held (u.words depth x) n) ≡ true → (b && are_held (h.words depth x) n) ≡ true
-        by g true true p q i = g i
-        by g true false p q i = absurd (differ (sym q ∙ (ap is_held (there depth x n p (free_own x n o l)) ∙ p)))
-        by g false b p q i = absurd (differ i)
+    ok_array x (suc n) o l i =
+        let b = both_true (may_write (u.words depth x n)) (may_write_all (u.words depth x) n) i in
+        both_and (may_write (h.words depth x n)) (may_write_all (h.words depth x) n) (serves_here writes depth x n (free_own x n o l writes) b.0) (ok_array x n o l b.1)
 
     -- ---- expressions
 
     ok_evaluate : (e : Expr ℕ) (k m : List Item) → SeesExpression (slots_of program f) (names known) hidden e → Obeys (expression_order e) (R k known hidden) lent → Runs (evaluate_step program page input w u e m) → Ok (evaluate_step program page input c h e k)
     ok_evaluate (expression.Number i) k m s o n = holding i k o
-    ok_evaluate (expression.Scalar x) k m s o n = ok_word depth x.name 0 _ _ (free_own x.name 0 s o.0) (λ v n. holding v k o.1) n
+    ok_evaluate (expression.Scalar x) k m s o n = ok_word depth x.name 0 _ _ (free_own x.name 0 s o.0 reads) (λ v n. holding v k o.1) n
     ok_evaluate (Element a place) k m s o n = idles (evaluate place ∷ element a.name ∷ k) (s.1, kept (expression_order place) (IsVisible (slots_of program f) (names known) hidden a.name) (Obeys (event (mentions a.name a.at)) (R k known hidden)) lent s.0 o)
     ok_evaluate (expression.Len a) k m s o n = ok_slice a.name _ _ s (λ r q l n. holding (pos r.length) k o.1) n
     ok_evaluate (InputAt place) k m s o n = idles (evaluate place ∷ read ∷ k) (s, o)
@@ -341,40 +345,37 @@ module _ (program : Program) (page : ℕ) (input : List ℤ) (f : ℕ) (callers 
 
     -- what a spawn lends, names stand for
     ok_spawn : (l : ℕ) (ws : List Argument) (x : Destination) (xs lent_names : List ℕ) (k m : List Item) → ((s : Scalar) → x ≡ Some s → (s.depth ≡ depth) × Among lent_names s.slot × IsOpen hidden s.slot) → ((z : ℕ) → Among xs z → Among lent_names z)
-        → Passed depth known hidden xs ws → IsFree xs lent → Distinct xs → R k known hidden (lent_names ++ lent) → Ok (spawn_call c h l ws x k)
+        → Passed depth known hidden xs ws → IsFree lent_names lent → Distinct xs → R k known hidden (lent_names ++ lent) → Ok (spawn_call c h l ws x k)
     ok_spawn l ws x xs lent_names k m scalar more_ p free_ single r = (
       record {
         ghosts = record { known = known; hidden = hidden; lent = lent_names ++ lent } ∷ ghosts;
         going = going_plain idle k (record { known = known; hidden = hidden; lent = lent_names ++ lent }) tt r;
         frames = (
-          guards_spawned Away (λ e t j. is_held ((lent_stack h x ws).words e t j) ≡ true) depth known hidden lent lent_names named guards,
+          λ access. guards_spawned (Away access) (Taken (lent_stack h x ws) (kept_stack h x ws) access) depth known hidden lent lent_names (named access) (guards access),
           stand,
-          frames_less Away (With Away depth (λ e t j. is_held ((lent_stack h x ws).words e t j) ≡ true)) h.references h.references callers ghosts (λ n e t j q a. elim a [ inl b ↦ b | inr b ↦ absurd (too_far n q b.0) ]) (λ d s q. refl) frames,
+          frames_less Away (Behind Away depth (lent_stack h x ws) (kept_stack h x ws)) h.references h.references callers ghosts (λ access n e t j q a. elim a [ inl b ↦ b | inr b ↦ absurd (too_far n q b.0) ]) (λ d s q. refl) frames,
         );
         passes = tt;
       },
-      record { callee = l; given = ws; is = refl; passes = passes_less (Away (suc depth)) (Outside u (lent_stack h x ws)) ws inside (passes_named Away depth known hidden lent xs ws guards p free_ single); no_references = λ d s. refl },
+      record {
+        callee = l;
+        given = ws;
+        is = refl;
+        passes = λ access. passes_less (Away access (suc depth)) (Outside u (lent_stack h x ws) access) ws (λ e t j q a o. o.1 (lent_serves access x ws e t j (h.words e t j) q (serves_here access e t j a o.0)))
+            (passes_named (Away access) depth known hidden lent xs ws (guards access) p (λ y a. free_ y (more_ y a)) single);
+        no_references = λ d s. refl;
+      },
+      λ e t j i a. (let b = named reads e t j i in (guards writes).free b.0 e t j b.2 (free_ b.0 b.1) b.3 a),
     )
       where
         too_far : (n : ℕ) → n ≤ depth → depth < n → ⊥
         too_far n q b = omega (arith, q, b)
 
-        lent_there : (b : Bool) (e t j : ℕ) → is_held (if b then h.words e t j else absent) ≡ true → b ≡ true
-        lent_there true e t j i = refl
-        lent_there false e t j i = absurd (differ i)
-
-        named : (e t j : ℕ) → is_held ((lent_stack h x ws).words e t j) ≡ true → (z : ℕ) × Among lent_names z × IsOpen hidden z × StandsFor depth known z e t j
-        named e t j i = elim (lends_true x ws e t j (lent_there (lends x ws e t j) e t j i)) [
+        named : (access : Access) (e t j : ℕ) → Taken (lent_stack h x ws) (kept_stack h x ws) access e t j → (z : ℕ) × Among lent_names z × IsOpen hidden z × StandsFor depth known z e t j
+        named access e t j i = elim (taken_true access x ws e t j (h.words e t j) i) [
           | inl a ↦ let b = scalar a.0 a.1 in (a.0.slot, b.1, b.2, inl (a.2 ∙ b.0, a.3))
           | inr a ↦ let b = named_word depth known hidden xs ws e t j p a in (b.0, more_ b.0 b.1, b.2, b.3)
         ]
-
-        held_there : (b : Bool) (z : Cell ℤ) → b ≡ true → is_held z ≡ true → is_held (if b then z else absent) ≡ false → ⊥
-        held_there true z q i n = differ (sym n ∙ i)
-        held_there false z q i n = differ q
-
-        inside : (e t j : ℕ) → CoveredBy ws e t j → (Away (suc depth) e t j → ⊥) → Outside u (lent_stack h x ws) e t j → ⊥
-        inside e t j q a o = held_there (lends x ws e t j) (h.words e t j) (lends_covered x ws e t j q) (ap is_held (there e t j o.0 a) ∙ o.0) o.1
 
     spawned_names : (x : ℕ) (s : Scalar) (xs : List ℕ) → IsOpen hidden x → Some (record { depth = depth; slot = x }) ≡ Some s → (s.depth ≡ depth) × Among (x ∷ xs) s.slot × IsOpen hidden s.slot
     spawned_names x s xs o e = subst (λ z. (z.depth ≡ depth) × Among (x ∷ xs) z.slot × IsOpen hidden z.slot) (same e) (refl, inl refl, o)
@@ -388,14 +389,14 @@ module _ (program : Program) (page : ℕ) (input : List ℤ) (f : ℕ) (callers 
       ghosts = ghost ∷ ghosts;
       going = i.2;
       frames = (guards, stand, frames);
-      passes = passes_named Away depth known hidden lent xs ws guards p (λ x a. i.0 x (onto_first xs [] x a)) (distinct_onto xs [] i.1).0;
+      passes = λ access. passes_named (Away access) depth known hidden lent xs ws (guards access) p (λ x a. i.0 x (onto_first xs [] x a)) (distinct_onto xs [] i.1).0;
     }
-    ok_enter (spawned None) l ws k m s xs p i n = ok_spawn l ws None xs (onto xs []) k m (λ z e. absurd (none z e)) (λ z a. onto_first xs [] z a) p (λ x a. i.0 x (onto_first xs [] x a)) (distinct_onto xs [] i.1).0 i.2
+    ok_enter (spawned None) l ws k m s xs p i n = ok_spawn l ws None xs (onto xs []) k m (λ z e. absurd (none z e)) (λ z a. onto_first xs [] z a) p i.0 (distinct_onto xs [] i.1).0 i.2
       where
         none : (z : Scalar) → None ≡ Some z → ⊥
         none z e = cc e
-    ok_enter (spawned (Some x)) l ws k m s xs p i n = ok_held depth x 0 _ _ (free_own x 0 s (i.0 x (inl refl)))
-        (λ n. ok_spawn l ws (Some (record { depth = depth; slot = x })) xs (x ∷ onto xs []) k m (λ z e. spawned_names x z (onto xs []) s e) (λ z a. inr (onto_first xs [] z a)) p (λ y a. i.0 y (inr (onto_first xs [] y a))) (distinct_onto xs [] i.1.1).0 i.2) n
+    ok_enter (spawned (Some x)) l ws k m s xs p i n = ok_held depth x 0 _ _ (free_own x 0 s (i.0 x (inl refl)) writes)
+        (λ n. ok_spawn l ws (Some (record { depth = depth; slot = x })) xs (x ∷ onto xs []) k m (λ z e. spawned_names x z (onto xs []) s e) (λ z a. inr (onto_first xs [] z a)) p i.0 (distinct_onto xs [] i.1.1).0 i.2) n
 
     ok_arguments : {j : _} (v : Purpose) (l : ℕ) (ws : List Argument) (row : Row_of-Arg ℕ j) (k m : List Item) → R (arguments v l ws row ∷ k) known hidden lent → Runs (item_step program page input w u (arguments v l ws row) m) → Ok (item_step program page input c h (arguments v l ws row) k)
     ok_arguments v l ws end_of-Arg k m r n = ok_enter v l ws k m r.0 r.2.0 r.2.1 r.2.2 n
@@ -493,14 +494,14 @@ module _ (program : Program) (page : ℕ) (input : List ℤ) (f : ℕ) (callers 
     ok_declare x slot.Scalar None rest k m p s y o n = ok_write depth x 0 None (pos 0) (declare rest ∷ k) (declare rest ∷ m) (free_own x 0 p o.0) (y, o.1) n
     ok_declare x slot.Scalar (Some e) rest k m p s y o n =
         idles (evaluate e ∷ assign x ∷ declare rest ∷ k) (s, more (expression_order e) (λ z. (Among z x → ⊥) × Obeys (items_order rest) (R k known hidden) z) (R (assign x ∷ declare rest ∷ k) known hidden) lent (λ z i. (p, (i.0, (y, i.1)))) o)
-    ok_declare x (slot.Array i) first rest k m p s y o n = by (are_held (u.words depth x) i) refl n
+    ok_declare x (slot.Array i) first rest k m p s y o n = by (may_write_all (u.words depth x) i) refl n
       where
         same : (first : Option (Expr ℕ)) → Obeys (optional_order first) (λ z. (Among z x → ⊥) × Obeys (items_order rest) (R k known hidden) z) lent → (Among lent x → ⊥) × Obeys (items_order rest) (R k known hidden) lent
         same None o = o
         same (Some e) o = calm_out (expression_order e) (calm_expression e) (λ z. (Among z x → ⊥) × Obeys (items_order rest) (R k known hidden) z) lent o
 
-        by : (b : Bool) → are_held (u.words depth x) i ≡ b → Runs (if b then silent (control (f ∷ callers) account idle (declare rest ∷ m)) (clear_words u depth x i) else stuck)
-            → Ok (if are_held (h.words depth x) i then silent (control (f ∷ callers) account idle (declare rest ∷ k)) (clear_words h depth x i) else stuck)
+        by : (b : Bool) → may_write_all (u.words depth x) i ≡ b → Runs (if b then silent (control (f ∷ callers) account idle (declare rest ∷ m)) (clear_words u depth x i) else stuck)
+            → Ok (if may_write_all (h.words depth x) i then silent (control (f ∷ callers) account idle (declare rest ∷ k)) (clear_words h depth x i) else stuck)
         by true q n = let z = same first o in let held = ok_array x i p z.0 q in rw held (stays idle (declare rest ∷ k) (clear_words h depth x i).words tt (y, z.1))
         by false q n = absurd n
     ok_declare x slot.Slice first rest k m p s y o n = absurd n
@@ -524,16 +525,16 @@ module _ (program : Program) (page : ℕ) (input : List ℤ) (f : ℕ) (callers 
             hidden_is = refl;
             left_open = g.1.left_open;
             right_open = g.1.right_open;
-            covered = split_covered depth known hidden x l r n whole small g.1 stands_ g.0.open_ guards.apart;
-            outer_apart = guards.apart;
+            covered = split_covered depth known hidden x l r n whole small g.1 stands_ g.0.open_ (guards writes).apart;
+            outer_apart = (guards writes).apart;
           },
           g.3.1.1.1,
         ),
       );
       frames = (
-        guards_split depth known hidden x l r n whole small g.1 stands_ Away lent g.0.open_ g.3.0 guards,
+        λ access. guards_split depth known hidden x l r n whole small g.1 stands_ (Away access) lent g.0.open_ g.3.0 (guards access),
         stand_split h depth known hidden x l r n whole g.1 stand,
-        frames_less Away Away h.references (write_parts h depth l r whole n).references callers ghosts (λ n e t j q a. a) before frames,
+        frames_less Away Away h.references (write_parts h depth l r whole n).references callers ghosts (λ access n e t j q a. a) before frames,
       );
       passes = tt;
     }
@@ -549,7 +550,7 @@ module _ (program : Program) (page : ℕ) (input : List ℤ) (f : ℕ) (callers 
     ok_close k x o = record {
       ghosts = record { known = x.outer_known; hidden = x.outer_hidden; lent = lent } ∷ ghosts;
       going = going_plain idle k (record { known = x.outer_known; hidden = x.outer_hidden; lent = lent }) tt o.1.1;
-      frames = (guards_closed Away depth known hidden lent x o.0 o.1.0 guards, stand_closed (h.references depth) depth known hidden x stand, frames);
+      frames = (λ access. guards_closed (Away access) depth known hidden lent x o.0 o.1.0 (guards access), stand_closed (h.references depth) depth known hidden x stand, frames);
       passes = tt;
     }
 
@@ -650,7 +651,7 @@ module _ (program : Program) (page : ℕ) (input : List ℤ) (f : ℕ) (callers 
       ok_item (either e) k m s r n = ok_value _ _ (λ v n. ok_if (is_zero v) _ _ _ _ (λ q n. idles (evaluate e ∷ truth ∷ k) (r.0, r.1.1)) (λ n. holding v (truth ∷ k) r.1.0) n) n
       ok_item truth k m s r n = ok_value _ _ (λ v n. holding _ k r) n
       ok_item (element x) k m s r n = ok_value _ _ (λ v n. ok_slice x _ _ r.0 (λ z q l n. ok_if (is_index v z.length) _ _ _ _
-          (λ e n. ok_word z.depth z.slot (z.start + natural v) _ _ (guards.free x z.depth z.slot (z.start + natural v) r.0.open_ r.1.0 (q z.depth z.slot (z.start + natural v) (within z (natural v) (index_within v z.length e)))) (λ a n. holding a k r.1.1) n) (λ n. tt) n) n) n
+          (λ e n. ok_word z.depth z.slot (z.start + natural v) _ _ ((guards reads).free x z.depth z.slot (z.start + natural v) r.0.open_ r.1.0 (q z.depth z.slot (z.start + natural v) (within z (natural v) (index_within v z.length e)))) (λ a n. holding a k r.1.1) n) (λ n. tt) n) n) n
       ok_item read k m s r n = ok_value _ _ (λ v n. ok_if (is_index v (length input)) _ _ _ _ (λ e n. ok_input (slice_get input (natural v)) k r) (λ n. tt) n) n
       ok_item (arguments v l ws row) k m s r n = ok_arguments v l ws row k m r n
       ok_item (pass v l ws row) k m s r n = ok_value _ _ (λ a n. idles (arguments v l (word a ∷ ws) row ∷ k) (r.0, r.1, (r.2.0, r.2.1, r.2.2))) n
@@ -666,7 +667,7 @@ module _ (program : Program) (page : ℕ) (input : List ℤ) (f : ℕ) (callers 
       ok_item (locate x o e) k m s r n = ok_value _ _ (λ v n. ok_slice x _ _ r.0 (λ z q l n. ok_if (is_index v z.length) _ _ _ _
           (λ b n. idles (evaluate e ∷ store x (natural v) o ∷ k) (r.1, calm_more (expression_order e) (calm_expression e) (R k known hidden) (R (store x (natural v) o ∷ k) known hidden) lent (λ y. (r.0, (r.2.0, y))) r.2.1)) (λ n. tt) n) n) n
       ok_item (store x j o) k m s r n = ok_value _ _ (λ v n. ok_slice x _ _ r.0 (λ z q l n. ok_write z.depth z.slot (z.start + j) o v k m
-          (guards.free x z.depth z.slot (z.start + j) r.0.open_ r.1.0 (q z.depth z.slot (z.start + j) (within z j (subst (λ y. j < y) (sym l) s)))) r.1.1 n) n) n
+          (λ access. (guards access).free x z.depth z.slot (z.start + j) r.0.open_ r.1.0 (q z.depth z.slot (z.start + j) (within z j (subst (λ y. j < y) (sym l) s)))) r.1.1 n) n) n
       ok_item (branch z o) k m s r n = ok_value _ _ (λ v n. ok_if (is_zero v) _ _ _ _ (λ q n. ok_other o k m r.1 r.2.1) (λ n. idles (perform z ∷ k) (r.0, r.2.0)) n) n
       ok_item (turn (Some t) z b) k m s r n =
           idles (evaluate t ∷ test t z b ∷ k) (
@@ -679,13 +680,8 @@ module _ (program : Program) (page : ℕ) (input : List ℤ) (f : ℕ) (callers 
       ok_item (part x l y row) k m s r n = ok_value _ _ (λ v n. ok_slice x _ _ r.0 (λ z q e n. ok_if (is_split v z.length) _ _ _ _
           (λ b n. ok_there l _ _ (λ n. ok_there y _ _ (λ n. ok_split x l y z (natural v) row k (split_within v z.length b) q r) n) n) (λ n. tt) n) n) n
         where
-          ok_there : (s : ℕ) (p q : Move) → (Runs q → Ok p) → Runs (when_held (u.references depth s) q) → Ok (when_held (h.references depth s) p)
-          ok_there s p q go = subst (λ z. Runs (when_held (u.references depth s) q) → Ok (when_held z p)) (sym (rows s)) (by (u.references depth s))
-            where
-              by : (z : Cell Reference) → Runs (when_held z q) → Ok (when_held z p)
-              by absent n = absurd n
-              by unset n = go n
-              by (present v) n = go n
+          ok_there : (s : ℕ) (p q : Move) → (Runs q → Ok p) → Runs (when_writable (u.references depth s) q) → Ok (when_writable (h.references depth s) p)
+          ok_there s p q = ok_writable (h.references depth s) (u.references depth s) p q (λ e. ap may_write (rows s) ∙ e)
       ok_item tick k m s r n = plain_at k r
       ok_item show k m s r n = ok_value _ _ (λ v n. idles k r) n
       ok_item exit k m s r n = ok_leave k r

@@ -1,7 +1,7 @@
 -- What the lending rule says of a piece that is under way: the rest of each of its calls obeys the rule, with the
 -- variables that are lent there, and what the others stand for is at hand.
 use Rattle.std.proofs.Common.{◌≡◌, ℕ, suc, ◌+◌, ◌<◌, ◌≤◌, List, [], ◌∷◌, ◌++◌, length, Option, None, Some, inl, inr}
-use Rattle.std.specs.Prelude.{◌⊎◌, ⊤, slice_get}
+use Rattle.std.specs.Prelude.{◌⊎◌, ⊤, true, slice_get}
 use Rattle.cm_syntax.specs.declared.expr.Call.{Row_of-Arg}
 use Rattle.cm_syntax.specs.declared.stmt.Slot.{Slot}
 use Rattle.cm_syntax.specs.declared.stmt.Stmt.{Stmt}
@@ -9,11 +9,24 @@ use Rattle.cm_syntax.specs.declared.stmt.Program.{Program}
 use Rattle.cm_syntax.specs.Walk.{mentions, Order, nothing, event, next, choice}
 use Rattle.cm_syntax.specs.Evaluation.{row_slices, expression_order, row_order, items_order, rounds_order, statement_order, statements_order, body_order}
 use Rattle.cm_syntax.specs.Lending.{variables}
-use Rattle.cm_syntax.specs.Stack.{Cell, present, Reference, Argument, word, slice}
+use Rattle.cm_syntax.specs.Cell.{Cell, value_in, may_write}
+use Rattle.cm_syntax.specs.Stack.{Reference, Argument, word, slice}
 use Rattle.cm_syntax.specs.Rest.{Purpose, called, spawned, Item, evaluate, right, apply, prefix, both, either, truth, element, read, arguments, pass, take_back, discard, deliver, perform, sequence, body, declare, assign, update, locate, store, branch, turn, test, part, tick, show, exit, fall, join, end, Hand, entering, framing}
 use Rattle.cm_syntax.specs.Step.{slots_in}
 use Rattle.cm_meaning.specs.Visible.{Among, IsOpen, IsFresh, IsVisible, SeesExpression, SeesArguments, SeesOptional, SeesItems, SeesStatement, SeesSequence, SeesBody}
 use Rattle.cm_meaning.proofs.LendingLaw.{Distinct, Obeys, leads_out}
+
+-- ---- access
+
+-- what is done with a word: it is read, or written
+pub data Access : Type 0 where
+  reads : Access
+  writes : Access
+
+-- the cell serves for it: there is a value to read, or the cell may be written
+abbrev pub Serves : {A : Type 0} → Access → Cell A → Type 0
+Serves {A = A} reads c = (v : A) × (value_in c ≡ Some v)
+Serves writes c = may_write c ≡ true
 
 -- ---- what names stand for
 
@@ -45,7 +58,7 @@ StandsFor depth known x e t j = ((e ≡ depth) × (t ≡ x)) ⊎ Refers known x 
 -- the named slices stand in their frame
 abbrev pub Stand : (row : ℕ → Cell Reference) → List Named → Type 0
 Stand row [] = ⊤
-Stand row (n ∷ known) = (row n.slot ≡ present n.reference) × Stand row known
+Stand row (n ∷ known) = (value_in (row n.slot) ≡ Some n.reference) × Stand row known
 
 -- What is known of a call that is under way: its named slices, the wholes that are hidden, and what is lent.
 pub record Ghost : Type 0 where
@@ -53,8 +66,10 @@ pub record Ghost : Type 0 where
   pub hidden : List ℕ
   pub lent : List ℕ
 
--- `Away n` are the words that are with the children of the calls before depth n, or outside of the piece. What a call's
--- names stand for isn't away; with its own children are only lent variables; and two names that are open overlap nowhere.
+-- `Away n` are the words that the children of the calls before depth n, or what is outside of the piece, keep from an
+-- access: for reading those that are *gone*, of which no share is here, for writing those that are *lent*, of which not
+-- the whole is. What a call's names stand for isn't away; its own children take only lent variables; and two names that
+-- are open overlap nowhere.
 pub record Guards (Away : (n e t j : ℕ) → Type 0) (depth : ℕ) (g : Ghost) : Type 0 where
   pub near : (x e t j : ℕ) → StandsFor depth g.known x e t j → Away depth e t j → ⊥
   pub free : (x e t j : ℕ) → IsOpen g.hidden x → (Among g.lent x → ⊥) → StandsFor depth g.known x e t j → Away (suc depth) e t j → ⊥
@@ -265,14 +280,14 @@ module _ (program : Program) where
   Going (f ∷ calls) (g ∷ ghosts) hand (end ∷ k) = Chain calls ghosts k
   Going calls ghosts hand k = Chain calls ghosts k
 
--- each call of a piece is guarded
-abbrev pub Frames : (Away : (n e t j : ℕ) → Type 0) → (refs : ℕ → ℕ → Cell Reference) → (calls : List ℕ) → List Ghost → Type 0
+-- each call of a piece is guarded, for each access
+abbrev pub Frames : (Away : Access → (n e t j : ℕ) → Type 0) → (refs : ℕ → ℕ → Cell Reference) → (calls : List ℕ) → List Ghost → Type 0
 Frames Away refs calls [] = ⊤
 Frames Away refs [] (g ∷ ghosts) = ⊥
-Frames Away refs (f ∷ calls) (g ∷ ghosts) = Guards Away (length calls) g × Stand (refs (length calls)) g.known × Frames Away refs calls ghosts
+Frames Away refs (f ∷ calls) (g ∷ ghosts) = ((access : Access) → Guards (Away access) (length calls) g) × Stand (refs (length calls)) g.known × Frames Away refs calls ghosts
 
 -- what a call at hand is passed
-abbrev pub PassesAt : (Away : (n e t j : ℕ) → Type 0) → (calls : List ℕ) → Hand → Type 0
-PassesAt Away calls (entering f ws) = Passes (Away (length calls)) ws
-PassesAt Away calls (framing f ws) = Passes (Away (length calls)) ws
+abbrev pub PassesAt : (Away : Access → (n e t j : ℕ) → Type 0) → (calls : List ℕ) → Hand → Type 0
+PassesAt Away calls (entering f ws) = (access : Access) → Passes (Away access (length calls)) ws
+PassesAt Away calls (framing f ws) = (access : Access) → Passes (Away access (length calls)) ws
 PassesAt Away calls _ = ⊤

@@ -1,16 +1,19 @@
 -- No piece of a program that obeys the lending rule is stuck: each reached piece is guarded.
-use Rattle.std.proofs.Common.{None, ◌≡◌, ℕ, suc, ◌+◌, ◌<◌, ◌≤◌, List, [], ◌∷◌, ◌++◌, length, Option, Some, refl, sym, ap, ◌∙◌, subst, arith, inl, inr, append_assoc}
-use Rattle.std.specs.Prelude.{◌-◌, Bool, true, false, ℤ, ⊤, slice_get}
+use Rattle.std.proofs.Common.{None, ◌≡◌, ℕ, suc, ◌+◌, ◌≤◌, List, [], ◌∷◌, ◌++◌, length, Option, Some, refl, sym, ap, ◌∙◌, subst, arith, inl, inr, append_assoc}
+use Rattle.std.proofs.lemmas.Bool.{ltb-true, ltb-false}
+use Rattle.std.specs.Prelude.{◌-◌, ◌⊎◌, nat_lt, Bool, true, false, ℤ, ⊤, slice_get}
 use Rattle.cm_syntax.specs.declared.stmt.Function.{Function}
 use Rattle.cm_syntax.specs.declared.stmt.Program.{Program}
 use Rattle.cm_syntax.specs.Label.{silent, ticks, prints, spawns, syncs, traps, ends, stuck}
 use Rattle.cm_syntax.specs.Evaluation.{function_order}
-use Rattle.cm_syntax.specs.Stack.{absent, Stack, Destination, Argument, is_held, empty_stack, settle, StackSum, IsUnder}
+use Rattle.cm_syntax.specs.Cell.{absent, is_held, may_write, CellSum}
+use Rattle.cm_syntax.specs.Stack.{Stack, Destination, Argument, empty_stack, settle, StackSum, IsUnder}
 use Rattle.cm_syntax.specs.Rest.{Item, deliver, Hand, idle, holds, returned, entering, framing, Control, control}
 use Rattle.cm_syntax.specs.Step.{Move, top, depth, frame_count, inside, step}
+use Rattle.cm_syntax.proofs.CellLaw.{cell_comm, cell_alone, cell_none, value_sum, not_held, unheld, value_held, left_value, held_left, held_parts, whole_left, still_held}
 use Rattle.cm_meaning.specs.Elision.{serial}
 use Rattle.cm_meaning.specs.End.{Done, Trapped, Spent}
-use Rattle.cm_meaning.specs.Piece.{awaited, printed, child, HasNote, here, Answer, none, past, before, other, taken, this, deeper, silently, ticking, showing, joining, parting, hearing}
+use Rattle.cm_meaning.specs.Piece.{awaited, printed, child, HasNote, here, Answer, none, past, before, other, taken, this, deeper, silently, ticking, showing, joining, parting, hearing, returning}
 use Rattle.cm_meaning.specs.Meaning.{Ask, Piece, Fork, Goes, begun, serial_step}
 use Rattle.cm_meaning.specs.Activation.{base, end_count, IsSettled}
 use Rattle.cm_meaning.specs.Law.{IsBeside, IsInside, arrival}
@@ -18,18 +21,18 @@ use Rattle.cm_meaning.specs.Typing.{TypedProgram}
 use Rattle.cm_meaning.specs.TypedState.{TypedState, KeepsTyped}
 use Rattle.cm_meaning.specs.Visible.{SeesProgram}
 use Rattle.cm_meaning.proofs.LendingLaw.{Obeys}
-use Rattle.cm_meaning.proofs.SumLaw.{comm, assoc, alone_, under_more, under_sum}
+use Rattle.cm_meaning.proofs.SumLaw.{comm, assoc, same as same_sum, alone_, under_more, under_sum}
 use Rattle.cm_meaning.proofs.BesideLaw.{beside}
 use Rattle.cm_meaning.proofs.InsideLaw.{within}
 use Rattle.cm_meaning.proofs.SettledLaw.{floor, Moves, Keeps, IsSpawned, good_law}
 use Rattle.cm_meaning.proofs.SafetyLaw.{typed_step}
 use Rattle.cm_meaning.proofs.TypedFramesLaw.{IsPlain, Wider, state, running, frames_of}
 use Rattle.cm_meaning.proofs.WiderLaw.{low_base}
-use Rattle.cm_meaning.proofs.GuardLaw.{PassesAt}
-use Rattle.cm_meaning.proofs.GuardStepLaw.{stand_same, With, passes_less, guards_joined}
-use Rattle.cm_meaning.proofs.GuardItemLaw.{At, Outside, Synced, Next, Runs, frames_less}
+use Rattle.cm_meaning.proofs.GuardLaw.{Access, reads, writes, Serves, PassesAt}
+use Rattle.cm_meaning.proofs.GuardStepLaw.{stand_same, passes_less, guards_joined}
+use Rattle.cm_meaning.proofs.GuardItemLaw.{Agrees, At, Outside, Behind, Synced, Next, Runs, frames_less}
 use Rattle.cm_meaning.proofs.GuardHandLaw.{Larger, ok_step}
-use Rattle.cm_meaning.proofs.LoanLaw.{Log, held_left, held_parts, taken_from, alone_cell, comm_cell, LentTo, Away, IsLoan, Loans, loans_under, loans_bare, loans_more, loans_lent, lent_loans, lent_more, lent_high, Meets, Learns, joined_loans, joined_references, joined_under, joined_lent, joined_own, typed_wider, Returned, returned_held, put_back, given_back}
+use Rattle.cm_meaning.proofs.LoanLaw.{Log, LentTo, Away, gone_lent, away_less, IsLoan, Loans, loans_under, loans_bare, loans_more, loans_lent, lent_loans, lent_more, lent_high, Meets, Learns, joined_loans, joined_references, joined_under, joined_lent, joined_held, joined_own, typed_wider, Returned, returned_held, put_back, given_back, Back, back_loans, back_lent}
 use Rattle.cm_meaning.proofs.ForkMeaning.{floor_low, synced}
 
 -- where a piece stands in the whole: it is main's, or behind its call the caller goes on
@@ -60,17 +63,17 @@ larger (called_by x t) [] = inr (x, t.rest, refl)
 larger (called_by x t) (i ∷ k) = (k ++ (deliver x ∷ t.rest), refl)
 
 -- a state with fewer words away
-at_less : (program : Program) (More Less : (n e t j : ℕ) → Type 0) (c : Control) (h : Stack) → ((n e t j : ℕ) → Less n e t j → More n e t j) → At program More c h → At program Less c h
-at_less program More Less c h f a = record {
+at_less : (program : Program) (More Less : Access → (n e t j : ℕ) → Type 0) (c : Control) (h g : Stack) → ((d s : ℕ) → g.references d s ≡ h.references d s) → ((access : Access) (n e t j : ℕ) → Less access n e t j → More access n e t j) → At program More c h → At program Less c g
+at_less program More Less c h g same f a = record {
   ghosts = a.ghosts;
   going = a.going;
-  frames = frames_less More Less h.references h.references c.calls a.ghosts (λ n e t j l. f n e t j) (λ d s l. refl) a.frames;
+  frames = frames_less More Less h.references g.references c.calls a.ghosts (λ access n e t j l. f access n e t j) (λ d s l. same d s) a.frames;
   passes = by c.hand a.passes;
 }
   where
     by : (z : Hand) → PassesAt More c.calls z → PassesAt Less c.calls z
-    by (entering l ws) p = passes_less (More (length c.calls)) (Less (length c.calls)) ws (λ e t j q n m. n (f (length c.calls) e t j m)) p
-    by (framing l ws) p = passes_less (More (length c.calls)) (Less (length c.calls)) ws (λ e t j q n m. n (f (length c.calls) e t j m)) p
+    by (entering l ws) p = λ access. passes_less (More access (length c.calls)) (Less access (length c.calls)) ws (λ e t j q n m. n (f access (length c.calls) e t j m)) (p access)
+    by (framing l ws) p = λ access. passes_less (More access (length c.calls)) (Less access (length c.calls)) ws (λ e t j q n m. n (f access (length c.calls) e t j m)) (p access)
     by idle p = tt
     by (holds v) p = tt
     by (returned v) p = tt
@@ -99,7 +102,7 @@ module _ (program : Program) (page : ℕ) (input : List ℤ) (typed : TypedProgr
     pub child_base : base q.call ≡ suc d
     pub settled : IsSettled q.call q.lent
     pub typed_ : TypedState program true (put around q.call) whole
-    pub at : At program (Away outside []) q.call q.lent
+    pub at : At program (Away outside q.lent []) q.call q.lent
 
   abbrev pub Kids : Log → Type 0
   Kids [] = ⊤
@@ -119,7 +122,7 @@ module _ (program : Program) (page : ℕ) (input : List ℤ) (typed : TypedProgr
     pub sum : StackSum middle outside whole
     pub under : IsUnder (base c) outside
     pub typed_ : TypedState program true (put around c) whole
-    pub at : At program (Away outside log) c h
+    pub at : At program (Away outside h log) c h
     pub kids : Kids log
 
   floor_room : (c : Control) → floor c ≤ length c.calls
@@ -130,6 +133,14 @@ module _ (program : Program) (page : ℕ) (input : List ℤ) (typed : TypedProgr
     where
       by : (a b : ℕ) → a - b ≤ a
       by a b = omega arith
+
+  -- what the whole holds it may write
+  typed_writable : (c : Control) (u : Stack) → TypedState program true c u → (e t j : ℕ) → is_held (u.words e t j) ≡ true → may_write (u.words e t j) ≡ true
+  typed_writable c u typed_u e t j i = by (nat_lt e (length c.calls)) refl
+    where
+      by : (b : Bool) → nat_lt e (length c.calls) ≡ b → may_write (u.words e t j) ≡ true
+      by true l = typed_u.words e t j (ltb-true e (length c.calls) l)
+      by false l = absurd (not_held (u.words e t j) (typed_u.below.words e t j (let m = ltb-false e (length c.calls) l in omega (arith, m))) i)
 
   runs_typed : (u : Stack) (x : Move) → KeepsTyped program true (elided u x) → Runs x
   runs_typed u (silent t g) k = tt
@@ -182,40 +193,49 @@ module _ (program : Program) (page : ℕ) (input : List ℤ) (typed : TypedProgr
     keeps_typed : KeepsTyped program true (goes (put o.around c) o.whole)
     keeps_typed = typed_step program page input true (put o.around c) o.whole typed o.typed_
 
-    there : (e t j : ℕ) → is_held (o.whole.words e t j) ≡ true → (Away o.outside log (length c.calls) e t j → ⊥) → h.words e t j ≡ o.whole.words e t j
-    there e t j i n = taken_from (h.words e t j) (others.0.words e t j) (o.whole.words e t j) (others.2.words e t j) i
-        (λ k. elim (held_parts (o.loans.words e t j) (o.outside.words e t j) (others.0.words e t j) (others.1.words e t j) k) [
-          | inl p ↦ n (inr (lent_more (floor c) (length c.calls) log e t j (floor_room c) (loans_lent (base c) (floor c) log o.loans o.owes e t j p)))
-          | inr p ↦ n (inl p)
-        ])
+    -- all children are of calls below the floor
+    lent_up : (n m e t j : ℕ) → floor c ≤ m → LentTo log n e t j → LentTo log m e t j
+    lent_up n m e t j l p = lent_more (floor c) m log e t j l (lent_high (base c) (floor c) n log o.loans o.owes e t j p)
+
+    others_held : (access : Access) (n e t j : ℕ) → Away o.outside h log access n e t j → is_held (others.0.words e t j) ≡ true
+    others_held access n e t j a = elim (gone_lent o.outside h log access n e t j a) [
+      | inl p ↦ held_left (o.outside.words e t j) (o.loans.words e t j) (others.0.words e t j) (cell_comm (o.loans.words e t j) (o.outside.words e t j) (others.0.words e t j) (others.1.words e t j)) p
+      | inr p ↦ held_left (o.loans.words e t j) (o.outside.words e t j) (others.0.words e t j) (others.1.words e t j) (lent_loans (base c) (floor c) n log o.loans o.owes e t j p)
+    ]
+
+    away_held : (access : Access) (n e t j : ℕ) → Away o.outside h log access n e t j → is_held (o.whole.words e t j) ≡ true
+    away_held access n e t j a =
+        held_left (others.0.words e t j) (h.words e t j) (o.whole.words e t j) (cell_comm (h.words e t j) (others.0.words e t j) (o.whole.words e t j) (others.2.words e t j)) (others_held access n e t j a)
+
+    there : Agrees (λ access. Away o.outside h log access (length c.calls)) h o.whole
+    there = record {
+      value = λ e t j n. left_value (h.words e t j) (o.loans.words e t j) (o.outside.words e t j) (others.0.words e t j) (o.whole.words e t j) (others.1.words e t j) (others.2.words e t j)
+          (λ p k. n ((elim p [ inl i ↦ inr (lent e t j i) | inr v ↦ inl v ]), k));
+      cell = λ e t j n. sym (cell_alone (h.words e t j) (others.0.words e t j) (o.whole.words e t j) (others.2.words e t j)
+          (cell_none (o.loans.words e t j) (o.outside.words e t j) (others.0.words e t j) (others.1.words e t j) (unheld (o.loans.words e t j) (λ i. n (inr (lent e t j i)))) (unheld (o.outside.words e t j) (λ i. n (inl i)))));
+    }
+      where
+        lent : (e t j : ℕ) → is_held (o.loans.words e t j) ≡ true → LentTo log (length c.calls) e t j
+        lent e t j i = lent_more (floor c) (length c.calls) log e t j (floor_room c) (loans_lent (base c) (floor c) log o.loans o.owes e t j i)
 
     rows : (i : Item) (k : List Item) → c.rest ≡ i ∷ k → IsPlain c.hand → (s : ℕ) → h.references (top c.calls) s ≡ o.whole.references (top c.calls) s
     rows i k r p s =
         let d = top c.calls in
         let low = low_base program page input c h o.settled i k r p in
         let free : others.0.references d s ≡ absent =
-        alone_cell (o.loans.references d s) (o.outside.references d s) (others.0.references d s) (others.1.references d s) (o.under.references d s low) ∙ loans_bare (base c) (floor c) log o.loans o.owes d s in
-        sym (alone_cell (h.references d s) (others.0.references d s) (o.whole.references d s) (others.2.references d s) free)
+        cell_alone (o.loans.references d s) (o.outside.references d s) (others.0.references d s) (others.1.references d s) (o.under.references d s low) ∙ loans_bare (base c) (floor c) log o.loans o.owes d s in
+        sym (cell_alone (h.references d s) (others.0.references d s) (o.whole.references d s) (others.2.references d s) free)
 
-    away_held : (n e t j : ℕ) → Away o.outside log n e t j → is_held (o.whole.words e t j) ≡ true
-    away_held n e t j (inl p) =
-        ap is_held (held_left (o.outside.words e t j) (o.middle.words e t j) (o.whole.words e t j) (comm_cell (o.middle.words e t j) (o.outside.words e t j) (o.whole.words e t j) (o.sum.words e t j)) p).0 ∙ p
-    away_held n e t j (inr p) =
-        let q = lent_loans (base c) (floor c) n log o.loans o.owes e t j p in
-        let m = ap is_held (held_left (o.loans.words e t j) (h.words e t j) (o.middle.words e t j) (comm_cell (h.words e t j) (o.loans.words e t j) (o.middle.words e t j) (o.inner.words e t j)) q).0 ∙ q in
-        ap is_held (held_left (o.middle.words e t j) (o.outside.words e t j) (o.whole.words e t j) (o.sum.words e t j) m).0 ∙ m
-
-    no_child : (e t j : ℕ) → Away o.outside log (suc (length c.calls)) e t j → Away o.outside log (length c.calls) e t j
-    no_child e t j (inl p) = inl p
-    no_child e t j (inr p) = inr (lent_more (floor c) (length c.calls) log e t j (floor_room c) (lent_high (base c) (floor c) (suc (length c.calls)) log o.loans o.owes e t j p))
+    no_child : (access : Access) (e t j : ℕ) → Away o.outside h log access (suc (length c.calls)) e t j → Away o.outside h log access (length c.calls) e t j
+    no_child access e t j = away_less o.outside h h log log (length c.calls) (suc (length c.calls)) e t j (lent_up (suc (length c.calls)) (length c.calls) e t j (floor_room c)) (λ a i. i) access
 
     -- what the step gives
-    next : Next program (Away o.outside log) o.whole c h (stepped c h)
+    next : Next program (Away o.outside h log) o.whole c h (stepped c h)
     next =
         let k = put_rest o.around c.rest in
         let w : Control = control c.calls c.account c.hand k in
         let same = put_is o.around c.calls c.account c.hand c.rest in
-        ok_step program page input typed sees obeys h o.whole (Away o.outside log) c.calls c.account c.hand c.rest k (larger o.around c.rest) o.at there rows away_held no_child
+        ok_step program page input typed sees obeys h o.whole (Away o.outside h log) c.calls c.account c.hand c.rest k (larger o.around c.rest) o.at there rows away_held no_child
         (subst (λ z. TypedState program true z o.whole) same o.typed_)
         (runs_typed o.whole (stepped w o.whole) (subst (λ z. KeepsTyped program true (goes z o.whole)) same keeps_typed))
 
@@ -232,15 +252,15 @@ module _ (program : Program) (page : ℕ) (input : List ℤ) (typed : TypedProgr
     moves_at : (x : Move) → stepped c h ≡ x → Moves c h x
     moves_at x e = subst (Moves c h) e moves
 
-    next_at : (x : Move) → stepped c h ≡ x → Next program (Away o.outside log) o.whole c h x
-    next_at x e = subst (Next program (Away o.outside log) o.whole c h) e next
+    next_at : (x : Move) → stepped c h ≡ x → Next program (Away o.outside h log) o.whole c h x
+    next_at x e = subst (Next program (Away o.outside h log) o.whole c h) e next
 
     further : (t : Control) → floor c ≤ floor t → base t ≡ base c → IsUnder (frame_count t) others.0
     further t l m = others_under (length t.calls) (let a = floor_room t in omega (arith, a, l)) (let a = base_room t in omega (arith, a, m))
 
     -- the piece behind a step that lends and joins nothing
-    goes_on : {t : Control} {g : Stack} (own_ : ℕ) (u : Stack) → TypedState program true (put o.around t) u → StackSum g others.0 u → IsSettled t g → floor c ≤ floor t → base t ≡ base c → At program (Away o.outside log) t g → Okay start own_ t g log
-    goes_on {t = t} own_ u typed_u sum settled l m a =
+    goes_on : {t : Control} {g : Stack} (own_ : ℕ) (u : Stack) → TypedState program true (put o.around t) u → StackSum g others.0 u → IsSettled t g → floor c ≤ floor t → base t ≡ base c → At program (Away o.outside h log) t g → Okay start own_ t g log
+    goes_on {t = t} {g = g} own_ u typed_u sum settled l m a =
         let r = assoc (comm others.1) (comm sum) in
         record {
           around = o.around;
@@ -254,9 +274,12 @@ module _ (program : Program) (page : ℕ) (input : List ℤ) (typed : TypedProgr
           sum = comm r.2;
           under = subst (λ b. IsUnder b o.outside) (sym m) o.under;
           typed_ = typed_u;
-          at = a;
+          at = at_less program (Away o.outside h log) (Away o.outside g log) t g g (λ d s. refl) (λ access n e s j. away_less o.outside h g log log n n e s j (λ p. p) (λ p. still e s j (others_held writes n e s j p)) access) a;
           kids = o.kids;
         }
+      where
+        still : (e s j : ℕ) → is_held (others.0.words e s j) ≡ true → is_held (h.words e s j) ≡ true → is_held (g.words e s j) ≡ true
+        still e s j = still_held (h.words e s j) (g.words e s j) (others.0.words e s j) (o.whole.words e s j) (u.words e s j) (others.2.words e s j) (sum.words e s j) (typed_writable (put o.around t) u typed_u e s j)
 
     okay_silent : {t : Control} {g : Stack} → stepped c h ≡ silent t g → Okay start own t g log
     okay_silent {t = t} {g = g} e =
@@ -287,7 +310,7 @@ module _ (program : Program) (page : ℕ) (input : List ℤ) (typed : TypedProgr
           sum = k.sum;
           under = k.under;
           typed_ = k.typed_;
-          at = at_less program (Away k.outside log) (Away k.outside (printed v ∷ log)) t g (λ n e s j a. a) k.at;
+          at = at_less program (Away k.outside g log) (Away k.outside g (printed v ∷ log)) t g g (λ d s. refl) (λ access n e s j. away_less k.outside g g log (printed v ∷ log) n n e s j (λ p. p) (λ p i. i) access) k.at;
           kids = k.kids;
         }
 
@@ -303,7 +326,7 @@ module _ (program : Program) (page : ℕ) (input : List ℤ) (typed : TypedProgr
       settled_ : IsSettled call lent × IsSettled t g
       settled_ = settled_at _ e
 
-      begins : Next program (Away o.outside log) o.whole c h (spawns call lent x t g)
+      begins : Next program (Away o.outside h log) o.whole c h (spawns call lent x t g)
       begins = next_at _ e
 
       typed_inside : TypedState program true (inside call x (put o.around t)) o.whole
@@ -325,22 +348,29 @@ module _ (program : Program) (page : ℕ) (input : List ℤ) (typed : TypedProgr
       lent_under : IsUnder (base call) lent
       lent_under = under_more (let n = ap end_count parts.1 in omega (arith, n)) settled_.0.below
 
-      in_rest : (e t j : ℕ) → Away rest.0 [] (length c.calls) e t j → Outside o.whole lent e t j
-      in_rest e t j (inr p) = absurd p
-      in_rest e t j (inl p) =
-          let r = held_left (rest.0.words e t j) (lent.words e t j) (o.whole.words e t j) (comm_cell (lent.words e t j) (rest.0.words e t j) (o.whole.words e t j) (rest.2.words e t j)) p in
-          (ap is_held r.0 ∙ p, ap is_held r.1)
+      rest_sum : (e t j : ℕ) → CellSum (rest.0.words e t j) (lent.words e t j) (o.whole.words e t j)
+      rest_sum e t j = cell_comm (lent.words e t j) (rest.0.words e t j) (o.whole.words e t j) (rest.2.words e t j)
 
-      child_at : At program (Away rest.0 []) call lent
+      -- what is away from the child doesn't serve it, and serves the whole
+      in_rest : (access : Access) (e t j : ℕ) → Away rest.0 lent [] access (length c.calls) e t j → Outside o.whole lent access e t j
+      in_rest reads e t j (inr p, k) = absurd p
+      in_rest reads e t j (inl p, k) = ((p.0, value_sum (rest.0.words e t j) (lent.words e t j) (o.whole.words e t j) p.0 (rest_sum e t j) p.1), λ s. k (value_held (lent.words e t j) s.0 s.1))
+      in_rest writes e t j (inr p) = absurd p
+      in_rest writes e t j (inl p) = (
+        typed_writable (put o.around c) o.whole o.typed_ e t j (held_left (rest.0.words e t j) (lent.words e t j) (o.whole.words e t j) (rest_sum e t j) p),
+        λ m. not_held (rest.0.words e t j) (whole_left (lent.words e t j) (rest.0.words e t j) (o.whole.words e t j) (rest.2.words e t j) m).1 p,
+      )
+
+      child_at : At program (Away rest.0 lent []) call lent
       child_at =
           let b = begins.1 in
-          let made : At program (Away rest.0 []) (control c.calls c.account (entering b.callee b.given) []) lent = record {
+          let made : At program (Away rest.0 lent []) (control c.calls c.account (entering b.callee b.given) []) lent = record {
             ghosts = [];
             going = refl;
             frames = tt;
-            passes = passes_less (Outside o.whole lent) (Away rest.0 [] (length c.calls)) b.given (λ e t j q n m. n (in_rest e t j m)) b.passes;
+            passes = λ access. passes_less (Outside o.whole lent access) (Away rest.0 lent [] access (length c.calls)) b.given (λ e t j q n m. n (in_rest access e t j m)) (b.passes access);
           } in
-          subst (λ z. At program (Away rest.0 []) z lent) (sym b.is) made
+          subst (λ z. At program (Away rest.0 lent []) z lent) (sym b.is) made
 
       kid : (ask_start : ℕ) → Kid (depth c) (record { start = ask_start; call = call; lent = lent })
       kid ask_start = record {
@@ -373,13 +403,26 @@ module _ (program : Program) (page : ℕ) (input : List ℤ) (typed : TypedProgr
       lent_bare : IsLoan (base c) (floor t) (depth c) lent
       lent_bare = record { from = m_.8; to = m_.1; under = subst (λ n. IsUnder n lent) m_.3 lent_under; bare = begins.1.no_references }
 
-      with_child : (ask_start at : ℕ) (n e s j : ℕ) → Away o.outside (child (depth c) at x false (record { start = ask_start; call = call; lent = lent }) awaited ∷ log) n e s j
-          → With (Away o.outside log) (top c.calls) (λ e s j. is_held (lent.words e s j) ≡ true) n e s j
-      with_child ask_start at n e s j (inl p) = inl (inl p)
-      with_child ask_start at n e s j (inr (inl p)) = inr p
-      with_child ask_start at n e s j (inr (inr p)) = inl (inr p)
+      -- what is gone, and was lent before, was gone before
+      was : (n e s j : ℕ) → Serves reads (o.outside.words e s j) ⊎ LentTo log n e s j → (is_held (g.words e s j) ≡ true → ⊥) → Away o.outside h log reads n e s j
+      was n e s j a k = (a, λ i. elim (held_parts (lent.words e s j) (g.words e s j) (h.words e s j) (m_.5.words e s j) i) [ inl l ↦ begins.2 e s j (l, k) (lifted a) | inr l ↦ k l ])
+        where
+          lifted : Serves reads (o.outside.words e s j) ⊎ LentTo log n e s j → Away o.outside h log writes (suc (depth c)) e s j
+          lifted (inl p) = inl (value_held (o.outside.words e s j) p.0 p.1)
+          lifted (inr p) = inr (lent_up n (suc (depth c)) e s j m_.7 p)
 
-      okay_part : (ask_start : ℕ) → Okay start own t g (child (depth c) own x false (record { start = ask_start; call = call; lent = lent }) awaited ∷ log)
+      abbrev noted : (ask_start : ℕ) → Log
+      noted ask_start = child (depth c) own x false (record { start = ask_start; call = call; lent = lent }) awaited ∷ log
+
+      with_child : (ask_start : ℕ) (access : Access) (n e s j : ℕ) → Away o.outside g (noted ask_start) access n e s j → Behind (Away o.outside h log) (depth c) lent g access n e s j
+      with_child ask_start writes n e s j (inl p) = inl (inl p)
+      with_child ask_start writes n e s j (inr (inl p)) = inr p
+      with_child ask_start writes n e s j (inr (inr p)) = inl (inr p)
+      with_child ask_start reads n e s j (inr (inl p), k) = inr (p.0, (p.1, k))
+      with_child ask_start reads n e s j (inl p, k) = inl (was n e s j (inl p) k)
+      with_child ask_start reads n e s j (inr (inr p), k) = inl (was n e s j (inr p) k)
+
+      okay_part : (ask_start : ℕ) → Okay start own t g (noted ask_start)
       okay_part ask_start =
           let l = assoc (comm m_.5) o.inner in
           record {
@@ -394,7 +437,7 @@ module _ (program : Program) (page : ℕ) (input : List ℤ) (typed : TypedProgr
             sum = o.sum;
             under = subst (λ b. IsUnder b o.outside) (sym m_.2) o.under;
             typed_ = typed_later;
-            at = at_less program (With (Away o.outside log) (top c.calls) (λ e s j. is_held (lent.words e s j) ≡ true)) (Away o.outside (child (depth c) own x false (record { start = ask_start; call = call; lent = lent }) awaited ∷ log)) t g (with_child ask_start own) begins.0;
+            at = at_less program (Behind (Away o.outside h log) (depth c) lent g) (Away o.outside g (noted ask_start)) t g g (λ d s. refl) (with_child ask_start) begins.0;
             kids = (kid ask_start, o.kids);
           }
 
@@ -436,43 +479,40 @@ module _ (program : Program) (page : ℕ) (input : List ℤ) (typed : TypedProgr
         same : (d s : ℕ) → g.references d s ≡ h.references d s
         same d s = joined_references program page input j (base c) (floor c) o.loans o.owes d s
 
-        lent_less : (n e s k : ℕ) → Away o.outside later n e s k → Away o.outside log n e s k
-        lent_less n e s k (inl q) = inl q
-        lent_less n e s k (inr q) = inr (joined_lent program page input j n e s k q)
+        lent_less : (access : Access) (n e s k : ℕ) → Away o.outside g later access n e s k → Away o.outside h log access n e s k
+        lent_less access n e s k = away_less o.outside h g log later n n e s k (joined_lent program page input j n e s k) (λ q. joined_held program page input j e s k) access
 
-        own_less : (e s k : ℕ) → Away o.outside later (suc (depth c)) e s k → Away o.outside log (depth c) e s k
-        own_less e s k (inl q) = inl q
-        own_less e s k (inr q) = inr (joined_own program page input j e s k q)
+        own_less : (access : Access) (e s k : ℕ) → Away o.outside g later access (suc (depth c)) e s k → Away o.outside h log access (depth c) e s k
+        own_less access e s k = away_less o.outside h g log later (depth c) (suc (depth c)) e s k (joined_own program page input j e s k) (λ q. joined_held program page input j e s k) access
 
-        no_passes : (z : Hand) (calls : List ℕ) → IsPlain z → PassesAt (Away o.outside later) calls z
+        no_passes : (z : Hand) (calls : List ℕ) → IsPlain z → PassesAt (Away o.outside g later) calls z
         no_passes idle calls q = tt
         no_passes (holds v) calls q = tt
         no_passes (returned v) calls q = tt
         no_passes (entering f ws) calls q = absurd q
         no_passes (framing f ws) calls q = absurd q
 
-        at_synced : Synced program (Away o.outside log) h (top c.calls) t → At program (Away o.outside later) t g
+        at_synced : Synced program (Away o.outside h log) h (top c.calls) t → At program (Away o.outside g later) t g
         at_synced y =
             let n = length y.callers in
-            let made : At program (Away o.outside later) (control (y.function ∷ y.callers) t.account t.hand t.rest) g = record {
+            let made : At program (Away o.outside g later) (control (y.function ∷ y.callers) t.account t.hand t.rest) g = record {
               ghosts = record { known = y.ghost.known; hidden = y.ghost.hidden; lent = [] } ∷ y.ghosts;
               going = y.going;
               frames = (
-                guards_joined (Away o.outside log) (Away o.outside later) n y.ghost.known y.ghost.hidden y.ghost.lent (λ e s k q. lent_less n e s k q)
-                    (subst (λ d. (e s k : ℕ) → Away o.outside later (suc d) e s k → Away o.outside log d e s k) (sym y.depth_is) own_less) y.guards,
+                λ access. guards_joined (Away o.outside h log access) (Away o.outside g later access) n y.ghost.known y.ghost.hidden y.ghost.lent (λ e s k q. lent_less access n e s k q)
+                    (subst (λ d. (e s k : ℕ) → Away o.outside g later access (suc d) e s k → Away o.outside h log access d e s k) (sym y.depth_is) (own_less access)) (y.guards access),
                 stand_same (h.references n) (g.references n) y.ghost.known (λ s a. same n s) y.stand,
-                frames_less (Away o.outside log) (Away o.outside later) h.references g.references y.callers y.ghosts (λ n e s k l q. lent_less n e s k q) (λ d s l. same d s) y.frames,
+                frames_less (Away o.outside h log) (Away o.outside g later) h.references g.references y.callers y.ghosts (λ access n e s k l q. lent_less access n e s k q) (λ d s l. same d s) y.frames,
               );
               passes = no_passes t.hand (y.function ∷ y.callers) y.plain;
             } in
-            subst (λ z. At program (Away o.outside later) (control z t.account t.hand t.rest) g) (sym y.calls_are) made
+            subst (λ z. At program (Away o.outside g later) (control z t.account t.hand t.rest) g) (sym y.calls_are) made
 
   -- ---- an answer
 
   -- what a child gives back
   kid_returned : {d : ℕ} {q : Ask} → Kid d q → (x : Destination) (out : List ℤ) (v : Option ℤ) (m : ℕ) (w : Stack) → Fork program page input (begun q) (Done out v m) w → Returned q.lent (settle x v w) × IsUnder (base q.call) (settle x v w)
-  kid_returned {q = q} k x out v m w f = given_back program page input q x out v m w k.outside k.whole k.settled k.low k.sum k.under
-      (λ e t j l. k.typed_.words e t j (subst (λ n. e < length n) (sym (put_calls k.around q.call)) (let a = base_room q.call in omega (arith, l, a)))) f
+  kid_returned {q = q} k x out v m w f = given_back program page input q x out v m w k.settled k.low f
 
   -- the loans with an answer
   record Heard (b n m : ℕ) (later : Log) (r u : Stack) : Type 0 where
@@ -542,13 +582,38 @@ module _ (program : Program) (page : ℕ) (input : List ℤ) (typed : TypedProgr
         sum = comm m.2;
         under = o.under;
         typed_ = typed_wider program o.whole y.whole (put o.around c) (subst (λ n. Wider (length n) o.whole y.whole) (sym (put_calls o.around c)) y.wider) o.typed_;
-        at = at_less program (Away o.outside log) (Away o.outside later) c h (less a o.kids o.outside) o.at;
+        at = at_less program (Away o.outside h log) (Away o.outside h later) c h h (λ d s. refl) (λ access n e t j. away_less o.outside h h log later n n e t j (heard_lent a o.kids n e t j) (λ p i. i) access) o.at;
         kids = kids_heard a o.kids;
       }
-    where
-      less : Learns program page input log later → Kids log → (outside : Stack) (n e t j : ℕ) → Away outside later n e t j → Away outside log n e t j
-      less a k outside n e t j (inl p) = inl p
-      less a k outside n e t j (inr p) = inr (heard_lent a k n e t j p)
+
+  -- ---- a share that comes back early
+
+  kids_back : {log later : Log} {h g : Stack} → Back program page input log h later g → Kids log → Kids later
+  kids_back (this y s) k = k
+  kids_back (deeper {n = printed v} y) k = kids_back y k
+  kids_back (deeper {n = child d at x j q z} y) k = (k.0, kids_back y k.1)
+
+  okay_back : {start own : ℕ} {c : Control} {h g : Stack} {log later : Log} → Okay start own c h log → Back program page input log h later g → Okay start own c g later
+  okay_back {c = c} {h = h} {g = g} {log = log} {later = later} o y =
+      let i = back_loans program page input y (base c) (floor c) o.loans o.owes in
+      let r = assoc (comm i.parted) (comm o.inner) in
+      record {
+        around = o.around;
+        outside = o.outside;
+        loans = i.loans;
+        middle = o.middle;
+        whole = o.whole;
+        settled = record { shape = o.settled.shape; enough = o.settled.enough; below = under_sum i.joined o.settled.below (under_more (floor_room c) i.under) };
+        owes = i.owes;
+        inner = subst (λ z. StackSum z i.loans o.middle) (same_sum (comm r.1) i.joined) (comm r.2);
+        sum = o.sum;
+        under = o.under;
+        typed_ = o.typed_;
+        at = at_less program (Away o.outside h log) (Away o.outside g later) c h g
+            (λ d s. cell_alone (h.references d s) (i.back.references d s) (g.references d s) (i.joined.references d s) (i.bare d s))
+            (λ access n e t j. away_less o.outside h g log later n n e t j (back_lent program page input y n e t j) (λ a p. held_left (h.words e t j) (i.back.words e t j) (g.words e t j) (i.joined.words e t j) p) access) o.at;
+        kids = kids_back y o.kids;
+      }
 
   -- ---- all rules
 
@@ -562,6 +627,7 @@ module _ (program : Program) (page : ℕ) (input : List ℤ) (typed : TypedProgr
   okay_goes o (joining e j k l) = okay_join o e j
   okay_goes o (parting {start = start} {own = own} {m = m} e k) = okay_part o e (start - (own + m))
   okay_goes o (hearing a) = okay_hear o a
+  okay_goes o (returning y) = okay_back o y
 
   begun_okay : {d : ℕ} (q : Ask) → Kid d q → OkayPiece (begun q)
   begun_okay q k = record {

@@ -2,16 +2,17 @@
 use Rattle.std.proofs.Common.{◌≡◌, ℕ, suc, ◌+◌, ◌<◌, ◌≤◌, List, [], ◌∷◌, ◌++◌, length, None, Some, refl, sym, ap, ◌∙◌, subst, arith, inl, inr}
 use Rattle.std.proofs.lemmas.Bool.{lt-ltb, ltb-true, ltb-false, le-leb, leb-true, eq-eqb, eqb-true}
 use Rattle.std.proofs.lemmas.Bool.Decides.{eqb_tells}
-use Rattle.std.specs.Prelude.{◌⊎◌, Bool, true, false, ◌==◌, ◌&&◌, ◌||◌, nat_le, nat_lt}
-use Rattle.cm_syntax.specs.Stack.{Cell, present, Reference, Stack, Scalar, Argument, word, slice, Destination, covers, lends_word, lends, write_parts, slice_parameter, push_frame}
+use Rattle.std.specs.Prelude.{◌⊎◌, Bool, true, false, ◌==◌, ◌&&◌, ◌||◌, if◌then◌else◌, nat_le, nat_lt, ℤ}
+use Rattle.cm_syntax.specs.Cell.{Cell, value_in, is_held, unlent, to_write, lent_cell, kept_cell}
+use Rattle.cm_syntax.specs.Stack.{Reference, Stack, Scalar, Argument, word, slice, Destination, covers, lends_word, lends, loan_of, write_parts, slice_parameter, push_frame}
 use Rattle.cm_meaning.specs.Visible.{Among, IsOpen, IsFresh}
 use Rattle.cm_meaning.proofs.LendingLaw.{among_left, among_right, Distinct}
 use Rattle.cm_meaning.proofs.TypedFramesLaw.{same_number, left_part, right_part}
-use Rattle.cm_meaning.proofs.GuardLaw.{Named, names, Covers, Refers, StandsFor, Stand, Ghost, Guards, CoveredBy, Passes, Passed, onto, IsFree, Closing}
+use Rattle.cm_meaning.proofs.GuardLaw.{Access, reads, writes, Serves, Named, names, Covers, Refers, StandsFor, Stand, Ghost, Guards, CoveredBy, Passes, Passed, onto, IsFree, Closing}
 
 -- ---- numbers and tests
 
-both_true : (x y : Bool) → (x && y) ≡ true → (x ≡ true) × (y ≡ true)
+pub both_true : (x y : Bool) → (x && y) ≡ true → (x ≡ true) × (y ≡ true)
 both_true true y h = (refl, h)
 both_true false y h = cc h
 
@@ -19,7 +20,7 @@ either_true : (x y : Bool) → (x || y) ≡ true → (x ≡ true) ⊎ (y ≡ tru
 either_true true y h = inl refl
 either_true false y h = inr h
 
-both_and : (x y : Bool) → x ≡ true → y ≡ true → (x && y) ≡ true
+pub both_and : (x y : Bool) → x ≡ true → y ≡ true → (x && y) ≡ true
 both_and x y h l = rw h l
 
 pub covers_true : (r : Reference) (e t j : ℕ) → covers r e t j ≡ true → Covers r e t j
@@ -53,7 +54,7 @@ or_true false y h = h
 true_or : (x y : Bool) → x ≡ true → (x || y) ≡ true
 true_or x y h = rw h refl
 
-pub lends_covered : (x : Destination) (ws : List Argument) (e t j : ℕ) → CoveredBy ws e t j → lends x ws e t j ≡ true
+lends_covered : (x : Destination) (ws : List Argument) (e t j : ℕ) → CoveredBy ws e t j → lends x ws e t j ≡ true
 lends_covered x ws e t j c = by x (among_slices ws c)
   where
     among_slices : (ws : List Argument) → CoveredBy ws e t j → lends_word ws e t j ≡ true
@@ -67,13 +68,42 @@ lends_covered x ws e t j c = by x (among_slices ws c)
     by (Some x) h = or_true (e == x.depth && (t == x.slot && j == 0)) (lends_word ws e t j) h
 
 -- a word that a spawn lends is its destination, or one of its slices covers it
-pub lends_true : (x : Destination) (ws : List Argument) (e t j : ℕ) → lends x ws e t j ≡ true
+lends_true : (x : Destination) (ws : List Argument) (e t j : ℕ) → lends x ws e t j ≡ true
     → ((y : Scalar) × (x ≡ Some y) × (e ≡ y.depth) × (t ≡ y.slot)) ⊎ CoveredBy ws e t j
 lends_true None ws e t j h = inr (covered_true ws e t j h)
 lends_true (Some y) ws e t j h = elim (either_true (e == y.depth && (t == y.slot && j == 0)) (lends_word ws e t j) h) [
   | inl a ↦ let b = both_true (e == y.depth) (t == y.slot && j == 0) a in let c = both_true (t == y.slot) (j == 0) b.1 in inl (y, refl, eqb-true e y.depth b.0, eqb-true t y.slot c.0)
   | inr b ↦ inr (covered_true ws e t j b)
 ]
+
+-- a spawn lends for writing what it lends, and the rest not at all
+loan_covered : (x : Destination) (ws : List Argument) (e t j : ℕ) → CoveredBy ws e t j → loan_of x ws e t j ≡ to_write
+loan_covered x ws e t j c = ap (λ b. if b then to_write else unlent) (lends_covered x ws e t j c)
+
+loan_none : (x : Destination) (ws : List Argument) (e t j : ℕ) → lends x ws e t j ≡ false → loan_of x ws e t j ≡ unlent
+loan_none x ws e t j h = ap (λ b. if b then to_write else unlent) h
+
+-- a word that a slice of a spawn covers serves the child as it served here
+pub lent_serves : (access : Access) (x : Destination) (ws : List Argument) (e t j : ℕ) (c : Cell ℤ) → CoveredBy ws e t j → Serves access c → Serves access (lent_cell (loan_of x ws e t j) c)
+lent_serves access x ws e t j c w s = subst (λ l. Serves access (lent_cell l c)) (sym (loan_covered x ws e t j w)) s
+
+-- what a spawn takes from the continuation: to write, all that the child has a share of; to read, where no share is kept
+abbrev pub Takes : {A : Type 0} → Access → (lent kept : Cell A) → Type 0
+Takes reads l k = (is_held l ≡ true) × (is_held k ≡ true → ⊥)
+Takes writes l k = is_held l ≡ true
+
+-- what a spawn takes is its destination, or one of its slices covers it
+pub taken_true : (access : Access) (x : Destination) (ws : List Argument) (e t j : ℕ) (c : Cell ℤ) → Takes access (lent_cell (loan_of x ws e t j) c) (kept_cell (loan_of x ws e t j) c)
+    → ((y : Scalar) × (x ≡ Some y) × (e ≡ y.depth) × (t ≡ y.slot)) ⊎ CoveredBy ws e t j
+taken_true access x ws e t j c h = by (lends x ws e t j) refl
+  where
+    nothing : (access : Access) → Takes access (lent_cell unlent c) (kept_cell unlent c) → false ≡ true
+    nothing reads h = h.0
+    nothing writes h = h
+
+    by : (b : Bool) → lends x ws e t j ≡ b → ((y : Scalar) × (x ≡ Some y) × (e ≡ y.depth) × (t ≡ y.slot)) ⊎ CoveredBy ws e t j
+    by true q = lends_true x ws e t j q
+    by false q = absurd (cc (nothing access (subst (λ l. Takes access (lent_cell l c) (kept_cell l c)) (loan_none x ws e t j q) h)))
 
 -- ---- names
 
@@ -98,26 +128,15 @@ refers_named [] x e t j r = absurd r
 refers_named (n ∷ known) x e t j (inl r) = inl r.0
 refers_named (n ∷ known) x e t j (inr r) = inr (refers_named known x e t j r)
 
--- what a slice stands for is what stands in its frame
-pub stands_refer : (row : ℕ → Cell Reference) (known : List Named) (x e t j : ℕ) (r : Reference) → Stand row known → row x ≡ present r → Refers known x e t j → Covers r e t j
-stands_refer row [] x e t j r s q h = absurd h
-stands_refer row (n ∷ known) x e t j r s q (inl h) = subst (λ z. Covers z e t j) (same (sym s.0 ∙ ap row h.0 ∙ q)) h.1
-  where
-    same : present n.reference ≡ present r → n.reference ≡ r
-    same e = cc e
-stands_refer row (n ∷ known) x e t j r s q (inr h) = stands_refer row known x e t j r s.1 q h
-
-pub refer_stands : (row : ℕ → Cell Reference) (known : List Named) (x e t j : ℕ) (r : Reference) → Stand row known → row x ≡ present r → Among (names known) x → Covers r e t j → Refers known x e t j
+-- what stands in a frame is what its slice stands for
+pub refer_stands : (row : ℕ → Cell Reference) (known : List Named) (x e t j : ℕ) (r : Reference) → Stand row known → value_in (row x) ≡ Some r → Among (names known) x → Covers r e t j → Refers known x e t j
 refer_stands row [] x e t j r s q a h = absurd a
-refer_stands row (n ∷ known) x e t j r s q (inl a) h = inl (a, subst (λ z. Covers z e t j) (same (sym q ∙ ap row (sym a) ∙ s.0)) h)
-  where
-    same : present r ≡ present n.reference → r ≡ n.reference
-    same e = cc e
+refer_stands row (n ∷ known) x e t j r s q (inl a) h = inl (a, subst (λ z. Covers z e t j) (cc (sym q ∙ ap (λ y. value_in (row y)) (sym a) ∙ s.0)) h)
 refer_stands row (n ∷ known) x e t j r s q (inr a) h = inr (refer_stands row known x e t j r s.1 q a h)
 
 pub stand_same : (row other : ℕ → Cell Reference) (known : List Named) → ((s : ℕ) → Among (names known) s → other s ≡ row s) → Stand row known → Stand other known
 stand_same row other [] e s = tt
-stand_same row other (n ∷ known) e s = (e n.slot (inl refl) ∙ s.0, stand_same row other known (λ s a. e s (inr a)) s.1)
+stand_same row other (n ∷ known) e s = (ap value_in (e n.slot (inl refl)) ∙ s.0, stand_same row other known (λ s a. e s (inr a)) s.1)
 
 -- ---- less is away
 
@@ -150,14 +169,14 @@ named_word depth known hidden [] (slice r ∷ ws) e t j p c = absurd p
 named_word depth known hidden (x ∷ xs) (slice r ∷ ws) e t j p (inl c) = (x, inl refl, p.1, p.0 e t j c)
 named_word depth known hidden (x ∷ xs) (slice r ∷ ws) e t j p (inr c) = let y = named_word depth known hidden xs ws e t j p.2 c in (y.0, inr y.1, y.2, y.3)
 
--- with those of the new child
-abbrev pub With : (Away : (n e t j : ℕ) → Type 0) → (depth : ℕ) → (Gone : (e t j : ℕ) → Type 0) → (n e t j : ℕ) → Type 0
-With Away depth Gone n e t j = Away n e t j ⊎ ((depth < n) × Gone e t j)
+-- with those that a new child takes
+abbrev pub With : (Away : (n e t j : ℕ) → Type 0) → (depth : ℕ) → (Taken : (e t j : ℕ) → Type 0) → (n e t j : ℕ) → Type 0
+With Away depth Taken n e t j = Away n e t j ⊎ ((depth < n) × Taken e t j)
 
-pub guards_spawned : (Away : (n e t j : ℕ) → Type 0) (Gone : (e t j : ℕ) → Type 0) (depth : ℕ) (known : List Named) (hidden lent xs : List ℕ)
-    → ((e t j : ℕ) → Gone e t j → (x : ℕ) × Among xs x × IsOpen hidden x × StandsFor depth known x e t j)
-    → Guards Away depth (record { known = known; hidden = hidden; lent = lent }) → Guards (With Away depth Gone) depth (record { known = known; hidden = hidden; lent = xs ++ lent })
-guards_spawned Away Gone depth known hidden lent xs named w = record {
+pub guards_spawned : (Away : (n e t j : ℕ) → Type 0) (Taken : (e t j : ℕ) → Type 0) (depth : ℕ) (known : List Named) (hidden lent xs : List ℕ)
+    → ((e t j : ℕ) → Taken e t j → (x : ℕ) × Among xs x × IsOpen hidden x × StandsFor depth known x e t j)
+    → Guards Away depth (record { known = known; hidden = hidden; lent = lent }) → Guards (With Away depth Taken) depth (record { known = known; hidden = hidden; lent = xs ++ lent })
+guards_spawned Away Taken depth known hidden lent xs named w = record {
   near = λ x e t j s a. elim a [ inl b ↦ w.near x e t j s b | inr b ↦ itself depth b.0 ];
   free = λ x e t j o l s a. elim a [
     | inl b ↦ w.free x e t j o (λ m. l (among_right xs lent x m)) s b
@@ -348,10 +367,10 @@ pub stand_split : (h : Stack) (depth : ℕ) (known : List Named) (hidden : List 
     → Stand ((write_parts h depth l r whole n).references depth) (record { slot = r; reference = right_part whole n } ∷ record { slot = l; reference = left_part whole n } ∷ known)
 stand_split h depth known hidden x l r n whole fresh s = (at_right, (at_left, stand_same (h.references depth) ((write_parts h depth l r whole n).references depth) known others s))
   where
-    at_right : (write_parts h depth l r whole n).references depth r ≡ present (right_part whole n)
+    at_right : value_in ((write_parts h depth l r whole n).references depth r) ≡ Some (right_part whole n)
     at_right = let a = same_number depth in let b = same_number r in rw (a, b) refl
 
-    at_left : (write_parts h depth l r whole n).references depth l ≡ present (left_part whole n)
+    at_left : value_in ((write_parts h depth l r whole n).references depth l) ≡ Some (left_part whole n)
     at_left = let a = same_number depth in let b = same_number l in let c : (l == r) ≡ false = other_number l r fresh.apart in rw (a, c, b) refl
 
     others : (t : ℕ) → Among (names known) t → (write_parts h depth l r whole n).references depth t ≡ h.references depth t

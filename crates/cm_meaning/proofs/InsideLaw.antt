@@ -18,9 +18,11 @@ use Rattle.cm_syntax.specs.declared.stmt.Program.{Program}
 use Rattle.cm_syntax.specs.Shape.{Joined, Prefixed, Element, InputAt, IfAlone, IfElse, WhileLoop, ForLoop}
 use Rattle.cm_syntax.specs.Label.{silent}
 use Rattle.cm_syntax.specs.Operator.{is_zero, natural, binary_value, divides, unary_value}
-use Rattle.cm_syntax.specs.Stack.{Cell, absent, unset, present, Reference, Stack, Destination, Argument, are_held}
+use Rattle.cm_syntax.specs.Cell.{Cell}
+use Rattle.cm_syntax.specs.Stack.{Reference, Stack, Destination, Argument, may_write_all}
 use Rattle.cm_syntax.specs.Rest.{Purpose, called, spawned, Item, evaluate, right, apply, prefix, both, either, truth, element, read, arguments, pass, take_back, discard, deliver, perform, sequence, body, declare, assign, update, locate, store, branch, turn, test, part, tick, show, exit, fall, join, end, Hand, idle, holds, returned, entering, framing, Control}
-use Rattle.cm_syntax.specs.Step.{Move, top, inside, rest_at_join, when_present, when_held, when_value, when_result, when_some, write_step, leave, is_index, is_split, slice_in, call_bytes_in, destination_slot, invoke, enter_call, take_value, drop_value, deliver_value, declare_item, do_other, fall_off, slot_at, running_function, when_slice, push_call, end_call, give_input, evaluate_step, statement_step, item_step, hand_step, step}
+use Rattle.cm_syntax.specs.Step.{Move, top, inside, rest_at_join, when_readable, when_writable, when_value, when_result, when_some, write_step, leave, is_index, is_split, slice_in, call_bytes_in, destination_slot, invoke, enter_call, take_value, drop_value, deliver_value, declare_item, do_other, fall_off, slot_at, running_function, when_slice, push_call, end_call, give_input, evaluate_step, statement_step, item_step, hand_step, step}
+use Rattle.cm_syntax.proofs.AccessLaw.{writing, both_read, both_write}
 use Rattle.cm_meaning.specs.Elision.{serial, serial_step}
 use Rattle.cm_meaning.specs.Law.{IsInside, arrival}
 
@@ -35,15 +37,11 @@ module _ (program : Program) (page : ℕ) (input : List ℤ) (x : Destination) (
   abbrev put_in : List Item → List Item
   put_in k = k ++ (deliver x ∷ z.rest)
 
-  inside_present : {A : Type 0} (c : Cell A) (f g : A → Move) → ((v : A) → In (f v) (g v)) → In (when_present c f) (when_present c g)
-  inside_present absent f g e = tt
-  inside_present unset f g e = tt
-  inside_present (present v) f g e = e v
+  inside_present : {A : Type 0} (c : Cell A) (f g : A → Move) → ((v : A) → In (f v) (g v)) → In (when_readable c f) (when_readable c g)
+  inside_present c f g e = both_read In tt c f g (λ v q. e v)
 
-  inside_held : {A : Type 0} (c : Cell A) (f g : Move) → In f g → In (when_held c f) (when_held c g)
-  inside_held absent f g e = tt
-  inside_held unset f g e = e
-  inside_held (present v) f g e = e
+  inside_held : {A : Type 0} (c : Cell A) (f g : Move) → In f g → In (when_writable c f) (when_writable c g)
+  inside_held c f g e = both_write In tt c f g (λ q. e)
 
   inside_value : (c : Hand) (f g : ℤ → Move) → ((v : ℤ) → In (f v) (g v)) → In (when_value c f) (when_value c g)
   inside_value (holds v) f g e = e v
@@ -76,7 +74,7 @@ module _ (program : Program) (page : ℕ) (input : List ℤ) (x : Destination) (
 
     inside_write : (d s i : ℕ) (p : Option Op) (v : ℤ) (k : List Item) → In (write_step c h d s i p v k) (write_step big h d s i p v (put_in k))
     inside_write d s i None v k = inside_held (h.words d s i) _ _ refl
-    inside_write d s i (Some p) v k = inside_present (h.words d s i) _ _ (λ old. inside_result p (binary_value p old v) _ _ (λ w. refl))
+    inside_write d s i (Some p) v k = inside_held (h.words d s i) _ _ (inside_present (h.words d s i) _ _ (λ old. inside_result p (binary_value p old v) _ _ (λ w. refl)))
 
     inside_call : (u : Purpose) (f : ℕ) (ws : List Argument) (k : List Item) → In (enter_call c h u f ws k) (enter_call big h u f ws (put_in k))
     inside_call called f ws k = refl
@@ -123,7 +121,7 @@ module _ (program : Program) (page : ℕ) (input : List ℤ) (x : Destination) (
     inside_declare : (y : ℕ) (s : Slot) (e : Option (Expr ℕ)) (more : List (items.Item ℕ)) (k : List Item) → In (declare_item c h y s e more k) (declare_item big h y s e more (put_in k))
     inside_declare y slot.Scalar None more k = inside_write (top c.calls) y 0 None (pos 0) (declare more ∷ k)
     inside_declare y slot.Scalar (Some e) more k = refl
-    inside_declare y (slot.Array n) e more k = inside_if (are_held (h.words (top c.calls) y) n) _ _ _ _ refl tt
+    inside_declare y (slot.Array n) e more k = inside_if (may_write_all (h.words (top c.calls) y) n) _ _ _ _ refl tt
     inside_declare y slot.Slice e more k = tt
 
     inside_end : (calls : List ℕ) (k : List Item) → In (end_call program page input c h calls k) (end_call program page input big h calls (put_in k))
@@ -232,10 +230,8 @@ module _ (program : Program) (page : ℕ) (input : List ℤ) (x : Destination) (
       silent_ : Move → Move
       silent_ y = serial Control Stack Destination (step program page input) inside h y
 
-      held : (y : Cell ℤ) (t : Control) (g : Stack) → silent_ (when_held y (silent t g)) ≡ when_held y (silent t g)
-      held absent t g = refl
-      held unset t g = refl
-      held (present w) t g = refl
+      held : (y : Cell ℤ) (t : Control) (g : Stack) → silent_ (when_writable y (silent t g)) ≡ when_writable y (silent t g)
+      held y t g = writing (λ m. silent_ m ≡ m) refl y (silent t g) (λ q. refl)
 
       by : (y : Destination) (v : Option ℤ) → silent_ (deliver_value (inside c x z) h (returned v) y z.rest) ≡ deliver_value (inside c x z) h (returned v) y z.rest
       by None v = refl

@@ -22,11 +22,13 @@ use Rattle.cm_syntax.specs.Trap as kind
 use Rattle.cm_syntax.specs.Fault.{parameter_slots}
 use Rattle.cm_syntax.specs.Label.{traps, stuck}
 use Rattle.cm_syntax.specs.Operator.{is_zero, natural, binary_value, divides, unary_value}
-use Rattle.cm_syntax.specs.Stack.{Cell, absent, unset, present, Reference, Stack, Destination, Argument, word, slice, write_word, clear_words, write_reference, write_parts, is_held, are_held}
+use Rattle.cm_syntax.specs.Cell.{Cell, absent, unset, present, may_write, shared}
+use Rattle.cm_syntax.specs.Stack.{Reference, Stack, Destination, Argument, word, slice, write_word, clear_words, write_reference, write_parts, may_write_all}
 use Rattle.cm_syntax.specs.Rest.{Purpose, called, spawned, Item, evaluate, right, apply, prefix, both, either, truth, element, read, arguments, pass, take_back, discard, deliver, perform, sequence, body, declare, assign, update, locate, store, branch, turn, test, part, tick, show, exit, fall, join, end, Hand, idle, holds, returned, entering, framing, Control, control}
-use Rattle.cm_syntax.specs.Step.{Move, inside, rest_at_join, scalar_slice, when_present, when_held, when_value, when_result, when_some, go_on, hold, write_step, leave, is_index, is_split, slice_in, slots_in, destination_slot, invoke, enter_call, take_value, drop_value, deliver_value, declare_item, do_other, fall_off, when_slice, give_input, evaluate_step, statement_step, item_step, step}
+use Rattle.cm_syntax.specs.Step.{Move, inside, rest_at_join, scalar_slice, when_readable, when_writable, when_value, when_result, when_some, go_on, hold, write_step, leave, is_index, is_split, slice_in, slots_in, destination_slot, invoke, enter_call, take_value, drop_value, deliver_value, declare_item, do_other, fall_off, when_slice, give_input, evaluate_step, statement_step, item_step, step}
 use Rattle.cm_meaning.specs.Elision.{serial}
 use Rattle.cm_syntax.specs.ParseTree.{is_unary}
+use Rattle.cm_syntax.proofs.AccessLaw.{writes_on}
 use Rattle.cm_meaning.specs.Typing.{is_arithmetic, IsUpdate, GivesWanted, IsRow, IsSetScalar, IsSetRow, parameters_in, TypedExpression, TypedArguments, TypedInvocation, TypedItem, TypedItems, TypedDestination, set_by_items, set_behind, TypedStatement, TypedSequence}
 use Rattle.cm_meaning.specs.TypedState.{IsPresent, row_words, IsSet, AreSet, AtHand, nothing, value, back, at_hand, HasComeBack, at_join, slots_at, IsReference, FitsParameter, HasNoStore, row_length, reference_length, behind_call, FitsPurpose, FitsDelivery, TypedOther, TypedLoop, FitsCall, FitsPass, Leaving, Inner, Outer, Calling, Ready, TypedState, KeepsTyped}
 use Rattle.cm_meaning.proofs.WeakeningLaw.{IsAmong, among_one_more, among_its_behind, more_statement}
@@ -36,7 +38,7 @@ use Rattle.cm_meaning.proofs.ArgumentLaw.{gives_any, gives_back, comes_back, dro
 
 -- a word that is updated has a value
 abbrev CanWrite : Option Op → Cell ℤ → Type 0
-CanWrite None c = is_held c ≡ true
+CanWrite None c = may_write c ≡ true
 CanWrite (Some o) c = (is_arithmetic o ≡ true) × IsPresent c
 
 can_write : (o : Option Op) (c : Cell ℤ) → IsUpdate o → IsPresent c → CanWrite o c
@@ -96,15 +98,14 @@ module _ (program : Program) (page : ℕ) (input : List ℤ) (gives : Bool) wher
 
     -- ---- what a step needs is there
 
-    ok_present : {A : Type 0} (y : Cell A) (m : A → Move) → IsPresent y → ((v : A) → y ≡ present v → Ok (m v)) → Ok (when_present y m)
+    ok_present : {A : Type 0} (y : Cell A) (m : A → Move) → IsPresent y → ((v : A) → y ≡ present v → Ok (m v)) → Ok (when_readable y m)
+    ok_present (present v) m p g = g v refl
     ok_present absent m p g = absurd p
     ok_present unset m p g = absurd p
-    ok_present (present v) m p g = g v refl
+    ok_present (shared q v) m p g = absurd p
 
-    ok_held : {A : Type 0} (y : Cell A) (m : Move) → is_held y ≡ true → Ok m → Ok (when_held y m)
-    ok_held absent m e g = cc e
-    ok_held unset m e g = g
-    ok_held (present v) m e g = g
+    ok_held : {A : Type 0} (y : Cell A) (m : Move) → may_write y ≡ true → Ok m → Ok (when_writable y m)
+    ok_held y m e g = subst Ok (sym (writes_on y m e)) g
 
     ok_value : (z : Hand) (m : ℤ → Move) → at_hand z ≡ value → ((v : ℤ) → Ok (m v)) → Ok (when_value z m)
     ok_value (holds v) m e g = g v
@@ -168,7 +169,7 @@ module _ (program : Program) (page : ℕ) (input : List ℤ) (gives : Bool) wher
 
     ok_write : (d s i : ℕ) (o : Option Op) (v : ℤ) (k : List Item) → CanWrite o (h.words d s i) → ((w : ℤ) → TypedState program gives (control (f ∷ calls) account idle k) (write_word h d s i w)) → Ok (write_step c h d s i o v k)
     ok_write d s i None v k w g = ok_held (h.words d s i) _ w (g v)
-    ok_write d s i (Some o) v k w g = ok_present (h.words d s i) _ w.1 (λ old e. ok_result o old v _ w.0 g)
+    ok_write d s i (Some o) v k w g = ok_held (h.words d s i) _ (present_held _ w.1) (ok_present (h.words d s i) _ w.1 (λ old e. ok_result o old v _ w.0 g))
 
     -- a word of a live frame
     writes : (d s j : ℕ) (v : ℤ) (k : List Item) → d ≤ length calls → Fits h set nothing k → TypedState program gives (control (f ∷ calls) account idle k) (write_word h d s j v)
@@ -188,7 +189,7 @@ module _ (program : Program) (page : ℕ) (input : List ℤ) (gives : Bool) wher
         let w = cleared_wider (length (f ∷ calls)) h (length calls) x n own in
         puts g (x ∷ set) k w (one_more_set g (length calls) function.slots set x (array_set g (length calls) x n (slice_get function.slots x) e (cleared_there h (length calls) x n)) (kept_sets g w)) i
 
-    all_held : (x n : ℕ) → are_held (h.words (length calls) x) n ≡ true
+    all_held : (x n : ℕ) → may_write_all (h.words (length calls) x) n ≡ true
     all_held x zero = refl
     all_held x (suc n) = let one = frames.words (length calls) x n own in rw one (all_held x n)
 

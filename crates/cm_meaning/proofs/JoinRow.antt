@@ -5,12 +5,14 @@ use Rattle.std.proofs.lemmas.Bool.Decides.{eqb_tells}
 use Rattle.std.specs.Prelude.{◌-◌, Bool, true, false, ◌==◌, nat_lt, if◌then◌else◌, ℤ}
 use Rattle.cm_syntax.specs.declared.stmt.Program.{Program}
 use Rattle.cm_syntax.specs.Label.{silent, ticks, prints, spawns, syncs, traps, ends, stuck}
-use Rattle.cm_syntax.specs.Stack.{Cell, absent, unset, present, Stack, Scalar, Destination, Argument, CellSum, StackSum, IsUnder, is_held, settle, settle_cell, push_frame, pop_frame}
+use Rattle.cm_syntax.specs.Cell.{Cell, CellSum, may_write, settle_cell}
+use Rattle.cm_syntax.specs.Stack.{Stack, Scalar, Destination, Argument, StackSum, SharesBack, IsUnder, settle, push_frame, pop_frame}
 use Rattle.cm_syntax.specs.Rest.{Control}
 use Rattle.cm_syntax.specs.Step.{Move, step, depth}
 use Rattle.cm_meaning.specs.End.{End, Done}
 use Rattle.cm_meaning.specs.Meaning.{Ask, Fork, Piece, Note}
 use Rattle.cm_meaning.specs.Piece.{piece, child, told, awaited, none, counted, Collects, taken, silently, ticking, parting, joining, hearing, this, goes}
+use Rattle.cm_syntax.proofs.CellLaw.{settle_sum}
 use Rattle.cm_meaning.proofs.SumLaw.{comm}
 use Rattle.cm_meaning.proofs.PieceRow.{Found, found, follow, followed, allowed_from, end_found, Is}
 
@@ -31,20 +33,14 @@ pushed_popped n a ws u i = record { words = λ d s j. word_ d s j i; references 
     ]
 
 -- a value comes into a word that one of two joined stacks holds
-pub settled_sum : (x : Scalar) (v : ℤ) (a b c : Stack) → StackSum a b c → is_held (a.words x.depth x.slot 0) ≡ true → StackSum (settle (Some x) (Some v) a) b (settle (Some x) (Some v) c)
+pub settled_sum : (x : Scalar) (v : ℤ) (a b c : Stack) → StackSum a b c → may_write (a.words x.depth x.slot 0) ≡ true → StackSum (settle (Some x) (Some v) a) b (settle (Some x) (Some v) c)
 settled_sum x v a b c o held = record { words = λ d s i. word_ d s i; references = o.references }
   where
-    cell : (p q r : Cell ℤ) → CellSum p q r → is_held p ≡ true → CellSum (settle_cell p v) q (settle_cell r v)
-    cell absent q r e k = cc k
-    cell unset absent r e k = ap (λ z. settle_cell z v) e
-    cell unset unset r e k = absurd e
-    cell unset (present w) r e k = absurd e
-    cell (present u) absent r e k = ap (λ z. settle_cell z v) e
-    cell (present u) unset r e k = absurd e
-    cell (present u) (present w) r e k = absurd e
+    cell : (p q r : Cell ℤ) → CellSum p q r → may_write p ≡ true → CellSum (settle_cell p v) q (settle_cell r v)
+    cell p q r e k = settle_sum p q r v e k
 
-    at_ : (d s i : ℕ) → d ≡ x.depth → s ≡ x.slot → i ≡ 0 → is_held (a.words d s i) ≡ true
-    at_ d s i e f g = ap (λ q. is_held (a.words q s i)) e ∙ ap (λ q. is_held (a.words x.depth q i)) f ∙ ap (λ q. is_held (a.words x.depth x.slot q)) g ∙ held
+    at_ : (d s i : ℕ) → d ≡ x.depth → s ≡ x.slot → i ≡ 0 → may_write (a.words d s i) ≡ true
+    at_ d s i e f g = ap (λ q. may_write (a.words q s i)) e ∙ ap (λ q. may_write (a.words x.depth q i)) f ∙ ap (λ q. may_write (a.words x.depth x.slot q)) g ∙ held
 
     word_ : (d s i : ℕ) → CellSum ((settle (Some x) (Some v) a).words d s i) (b.words d s i) ((settle (Some x) (Some v) c).words d s i)
     word_ d s i = elim (eqb_tells d x.depth) [
@@ -147,7 +143,7 @@ module _ (program : Program) (page : ℕ) (input : List ℤ) where
 
   -- A spawn, its child that only returns a value, a silent step, the sync, and the rest of the run.
   pub joined_once : (start : ℕ) (c b t : Control) (h whole : Stack) (z : Spawned) (x : Scalar) (v : ℤ) (ws : List Argument) (m : ℕ) (e : End)
-      → lead 250 start 0 c h ≡ Some z → z.destination ≡ Some x → StackSum z.lent z.kept whole → IsUnder 1 z.lent → is_held (z.lent.words x.depth x.slot 0) ≡ true
+      → lead 250 start 0 c h ≡ Some z → z.destination ≡ Some x → StackSum z.lent z.kept whole → IsUnder 1 z.lent → may_write (z.lent.words x.depth x.slot 0) ≡ true
       → follow program page input 250 (start - z.own) 0 z.call z.lent [] ≡ found (Done [] (Some v) m) (back z ws)
       → step program page input z.later z.kept ≡ silent b z.kept → step program page input b z.kept ≡ syncs t → depth b ≡ z.depth_
       → z.own + (0 + m) ≤ start
@@ -174,8 +170,8 @@ module _ (program : Program) (page : ℕ) (input : List ℤ) where
       joined : StackSum z.kept (settle (Some x) (Some v) (back z ws)) (settle (Some x) (Some v) whole)
       joined = subst (λ y. StackSum z.kept (settle (Some x) (Some v) y) (settle (Some x) (Some v) whole)) (sym (pushed_popped 1 z.lent ws low)) (comm (settled_sum x v z.lent z.kept whole sum held))
 
-      collected : Collects Control Stack Destination StackSum settle depth (step program page input) (depth b) (child z.depth_ z.own (Some x) false (record { start = start - z.own; call = z.call; lent = z.lent }) (told (Done [] (Some v) m) (back z ws)) ∷ []) z.kept (joined_log start z x ws (Done [] (Some v) m)) (settle (Some x) (Some v) whole)
-      collected = subst (λ y. Collects Control Stack Destination StackSum settle depth (step program page input) y (child z.depth_ z.own (Some x) false (record { start = start - z.own; call = z.call; lent = z.lent }) (told (Done [] (Some v) m) (back z ws)) ∷ []) z.kept (joined_log start z x ws (Done [] (Some v) m)) (settle (Some x) (Some v) whole)) (sym same) (taken joined none)
+      collected : Collects Control Stack Destination StackSum SharesBack settle depth (step program page input) (depth b) (child z.depth_ z.own (Some x) false (record { start = start - z.own; call = z.call; lent = z.lent }) (told (Done [] (Some v) m) (back z ws)) ∷ []) z.kept (joined_log start z x ws (Done [] (Some v) m)) (settle (Some x) (Some v) whole)
+      collected = subst (λ y. Collects Control Stack Destination StackSum SharesBack settle depth (step program page input) y (child z.depth_ z.own (Some x) false (record { start = start - z.own; call = z.call; lent = z.lent }) (told (Done [] (Some v) m) (back z ws)) ∷ []) z.kept (joined_log start z x ws (Done [] (Some v) m)) (settle (Some x) (Some v) whole)) (sym same) (taken joined none)
 
       asked_ : Forks (waiting (Some x)) e later.0
       asked_ = goes (hearing (this child_end)) (goes (silently one) (goes (joining sync collected (counted none) fits) later.1))

@@ -12,7 +12,8 @@ use Rattle.cm_syntax.specs.declared.stmt.Slot.TheVariants as slot
 use Rattle.cm_syntax.specs.declared.stmt.Program.{Program}
 use Rattle.cm_syntax.specs.Frame.{slot_words, slots_words}
 use Rattle.cm_syntax.specs.Stack as stack
-use Rattle.cm_syntax.specs.Stack.{Cell, unset, present, words_with, word_parameter, slice_parameter, push_frame}
+use Rattle.cm_syntax.specs.Cell.{Cell, unset, present}
+use Rattle.cm_syntax.specs.Stack.{words_with, word_parameter, slice_parameter, push_frame}
 use Rattle.cm_syntax.specs.Fault.{parameter_slots}
 use Rattle.cm_syntax.specs.Step.{slots_in}
 use Rattle.cm_meaning.specs.TypedState.{slots_at, row_words}

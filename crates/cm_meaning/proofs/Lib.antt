@@ -10,6 +10,7 @@ pub mod RunLaw
 pub mod PieceRow
 pub mod JoinRow
 pub mod PrintRow
+pub mod ShareRow
 pub mod AccountLaw
 pub mod MeasureRow
 pub mod AboveLaw

@@ -5,7 +5,7 @@ use Rattle.std.proofs.lemmas.Bool.{ltb-true, ltb-false, leb-true, leb-false}
 use Rattle.std.specs.Prelude.{◌-◌, Bool, true, false, nat_lt, nat_le, ◌==◌, ◌&&◌, if◌then◌else◌, ℤ, ⊤}
 use Rattle.cm_syntax.specs.declared.stmt.Program.{Program}
 use Rattle.cm_syntax.specs.Label.{silent, ticks, prints, spawns, syncs, traps, ends, stuck}
-use Rattle.cm_syntax.specs.Stack.{Stack, Destination, StackSum, settle}
+use Rattle.cm_syntax.specs.Stack.{Stack, Destination, StackSum, SharesBack, settle}
 use Rattle.cm_syntax.specs.Rest.{Control}
 use Rattle.cm_syntax.specs.Step.{Move, step, depth}
 use Rattle.cm_meaning.proofs.BesideLaw.{and_true}
@@ -88,7 +88,7 @@ no_child_at d (printed v ∷ log) = no_child_at d log
 no_child_at d (child b o x true q r ∷ log) = no_child_at d log
 no_child_at d (child b o x false q r ∷ log) = if b == d then false else no_child_at d log
 
-collects_none : (d : ℕ) (step_ : Control → Stack → Move) (log : Log) (h : Stack) → no_child_at d log ≡ true → Collects Control Stack Destination StackSum settle depth step_ d log h log h
+collects_none : (d : ℕ) (step_ : Control → Stack → Move) (log : Log) (h : Stack) → no_child_at d log ≡ true → Collects Control Stack Destination StackSum SharesBack settle depth step_ d log h log h
 collects_none d step_ [] h e = none
 collects_none d step_ (printed v ∷ log) h e = past (collects_none d step_ log h e)
 collects_none d step_ (child b o x true q r ∷ log) h e = before (collects_none d step_ log h e)
@@ -147,7 +147,7 @@ module _ (program : Program) (page : ℕ) (input : List ℤ) where
     given (Trapped out k n) h = tt
     given Spent h = tt
 
-    stopped : (start own : ℕ) (c : Control) (h : Stack) (log : Log) (o : Own) → AllTold Control Stack Destination log → Stops Control Stack Destination StackSum settle depth (step program page input) start own c h log o → Is (stop start own h log o) (piece_of start own c h log)
+    stopped : (start own : ℕ) (c : Control) (h : Stack) (log : Log) (o : Own) → AllTold Control Stack Destination log → Stops Control Stack Destination StackSum SharesBack settle depth (step program page input) start own c h log o → Is (stop start own h log o) (piece_of start own c h log)
     stopped start own c h log o t s = stops s t (decides start own (sum_of log) o) (given _ h)
 
     on_silent : (start own : ℕ) (c t : Control) (h g : Stack) (log : Log) → step program page input c h ≡ silent t g → (f : Found) → Is f (piece_of start own t g log) → Is f (piece_of start own c h log)

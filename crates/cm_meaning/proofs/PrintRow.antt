@@ -4,7 +4,7 @@ use Rattle.std.proofs.lemmas.Bool.{ltb-true}
 use Rattle.std.specs.Prelude.{◌-◌, Bool, true, false, nat_lt, if◌then◌else◌, ℤ}
 use Rattle.cm_syntax.specs.declared.stmt.Program.{Program}
 use Rattle.cm_syntax.specs.Label.{silent, ticks, prints, spawns, syncs, traps, ends, stuck}
-use Rattle.cm_syntax.specs.Stack.{Stack, Destination, StackSum, IsUnder, settle, push_frame, pop_frame}
+use Rattle.cm_syntax.specs.Stack.{Stack, Destination, StackSum, SharesBack, IsUnder, settle, push_frame, pop_frame}
 use Rattle.cm_syntax.specs.Rest.{Control}
 use Rattle.cm_syntax.specs.Step.{Move, step, depth}
 use Rattle.cm_meaning.specs.End.{End, Done}
@@ -102,7 +102,7 @@ module _ (program : Program) (page : ℕ) (input : List ℤ) where
       → StackSum lent kept z.held → IsUnder 1 lent → follow program page input 250 (start - (z.own + 0)) 0 call lent [] ≡ found (Done out None m) (after_frame lent)
       → walk 250 start z.own t kept (answered (start - (z.own + 0)) z.own call lent false (Done out None m) (after_frame lent) ∷ z.log) ≡ Some y
       → y.log ≡ printed v ∷ answered (start - (z.own + 0)) z.own call lent false (Done out None m) (after_frame lent) ∷ z.log → y.held ≡ kept → stepped y.control y.held ≡ syncs u → depth y.control ≡ 0
-      → Collects Control Stack Destination StackSum settle depth stepped 0 z.log z.held z.log z.held
+      → Collects Control Stack Destination StackSum SharesBack settle depth stepped 0 z.log z.held z.log z.held
       → y.own + m ≤ start
       → (f : Found) → follow program page input 250 start y.own u z.held (printed v ∷ answered (start - (z.own + 0)) z.own call lent true (Done out None m) (after_frame lent) ∷ z.log) ≡ f → end_found program page input f ≡ Some e
       → Rattle.cm_meaning.specs.Piece.AllTold Control Stack Destination z.log
@@ -125,7 +125,7 @@ module _ (program : Program) (page : ℕ) (input : List ℤ) where
       joined : StackSum kept (settle None None (after_frame lent)) z.held
       joined = subst (λ s. StackSum kept s z.held) (sym (pushed_popped 1 lent [] low)) (comm sum)
 
-      collected : Collects Control Stack Destination StackSum settle depth stepped 0 (log_ false) kept (log_ true) z.held
+      collected : Collects Control Stack Destination StackSum SharesBack settle depth stepped 0 (log_ false) kept (log_ true) z.held
       collected = past (taken joined older)
 
       counted_later : Counts Control Stack Destination (log_ true) m
@@ -136,8 +136,8 @@ module _ (program : Program) (page : ℕ) (input : List ℤ) where
 
       at_sync : Forks (piece_of start y.own y.control y.held y.log) e later.0
       at_sync = subst (λ l. Forks (piece_of start y.own y.control y.held l) e later.0) (sym log_is)
-          (goes (joining sync (subst (λ d. Collects Control Stack Destination StackSum settle depth stepped d (log_ false) y.held (log_ true) z.held) (sym depth_y)
-          (subst (λ s. Collects Control Stack Destination StackSum settle depth stepped 0 (log_ false) s (log_ true) z.held) (sym same) collected)) counted_later fits) later.1)
+          (goes (joining sync (subst (λ d. Collects Control Stack Destination StackSum SharesBack settle depth stepped d (log_ false) y.held (log_ true) z.held) (sym depth_y)
+          (subst (λ s. Collects Control Stack Destination StackSum SharesBack settle depth stepped 0 (log_ false) s (log_ true) z.held) (sym same) collected)) counted_later fits) later.1)
 
       child_end : Forks (piece_of left 0 call lent []) (Done out None m) (after_frame lent)
       child_end = subst (λ q. Is program page input q (piece_of left 0 call lent [])) run (followed program page input 250 left 0 call lent [] tt refl)

@@ -7,7 +7,7 @@ use Rattle.cm_syntax.specs.Trap.{Trap}
 use Rattle.cm_syntax.specs.Label.{Step, spawns, traps, ends}
 use Rattle.cm_meaning.specs.End.{End, Done, Trapped, Spent}
 use Rattle.cm_meaning.specs.Elision.{Comes, quiet}
-use Rattle.cm_meaning.specs.Piece.{Own, fails, runs_out, IsDone, Sum, going, trapped, spent, Capped, fits, passes, Decides, own_trap, own_spent, add_end, Ask, Answer, awaited, told, Note, printed, child, Piece, piece, begun, HasNote, here, deeper, log_sum, Counts, AllDone, Fallen, by_trap, by_spent, later, Stops, Collects, none, past, before, other, taken, by_return, by_tick, by_sync, by_child, Goes, silently, ticking, showing, joining, parting, hearing, Hears, this, Fork, Reached, itself, then, its_child}
+use Rattle.cm_meaning.specs.Piece.{Own, fails, runs_out, IsDone, Sum, going, trapped, spent, Capped, fits, passes, Decides, own_trap, own_spent, add_end, Ask, Answer, awaited, told, Note, printed, child, Piece, piece, begun, HasNote, here, deeper, log_sum, Counts, AllDone, Fallen, by_trap, by_spent, later, Stops, Collects, none, past, before, other, taken, by_return, by_tick, by_sync, by_child, Goes, silently, ticking, showing, joining, parting, hearing, returning, GivesBack, Hears, this, Fork, Reached, itself, then, its_child}
 use Rattle.cm_meaning.proofs.EndLaw as finish
 use Rattle.cm_meaning.proofs.ForkLaw as fork
 use Rattle.cm_meaning.proofs.ForkLaw.{Laws, Early, Moves, empty_, number_, kept_, filled_}
@@ -18,8 +18,8 @@ no_cap : {start n m a : ℕ} {o p : List ℤ} {k : Trap} {v : Option ℤ} {d : E
 no_cap (fits l) e = cc e
 no_cap (passes l) e = cc e
 
-module _ (Control Stack Destination : Type 0) (Joins : Stack → Stack → Stack → Type 0) (settle : Destination → Option ℤ → Stack → Stack) (depth : Control → ℕ) (step : Control → Stack → Step Control Stack Destination) (inside : Control → Destination → Control → Control) where
-  module _ (laws : Laws Control Stack Destination Joins settle depth step inside) where
+module _ (Control Stack Destination : Type 0) (Joins : Stack → Stack → Stack → Type 0) (TakesOut : (back rest given : Stack) → Type 0) (settle : Destination → Option ℤ → Stack → Stack) (depth : Control → ℕ) (step : Control → Stack → Step Control Stack Destination) (inside : Control → Destination → Control → Control) where
+  module _ (laws : Laws Control Stack Destination Joins TakesOut settle depth step inside) where
     open laws use {comm, assoc, Under, under_more, under_sum, floor, base, Good}
 
     abbrev Move : Type 0
@@ -32,43 +32,43 @@ module _ (Control Stack Destination : Type 0) (Joins : Stack → Stack → Stack
     SomePiece = Piece Control Stack Destination
 
     abbrev Meets : ℕ → Log → Stack → Log → Stack → Type 0
-    Meets = Collects Control Stack Destination Joins settle depth step
+    Meets = Collects Control Stack Destination Joins TakesOut settle depth step
 
     abbrev Runs : Control → Stack → List ℤ → ℕ → Control → Stack → Type 0
     Runs = Comes Control Stack Destination step inside
 
     abbrev Owed : (low high : ℕ) → Log → Stack → Type 0
-    Owed = fork.Owed Control Stack Destination Joins settle depth step inside laws
+    Owed = fork.Owed Control Stack Destination Joins TakesOut settle depth step inside laws
 
     abbrev Follows : (c0 : Control) → (h0 : Stack) → (start own : ℕ) → Control → Stack → Log → Sum → Type 0
-    Follows = fork.Follows Control Stack Destination Joins settle depth step inside laws
+    Follows = fork.Follows Control Stack Destination Joins TakesOut settle depth step inside laws
 
     abbrev Sees : Control → Stack → ℕ → End → Stack → Type 0
-    Sees = fork.Sees Control Stack Destination Joins settle depth step inside laws
+    Sees = fork.Sees Control Stack Destination Joins TakesOut settle depth step inside laws
 
     abbrev Ends : (start own : ℕ) → Control → Stack → Log → End → Stack → Type 0
-    Ends = Early Control Stack Destination Joins settle depth step inside
+    Ends = Early Control Stack Destination Joins TakesOut settle depth step inside
 
     abbrev Fills : Log → Log → Type 0
-    Fills = fork.Fills Control Stack Destination Joins settle depth step inside laws
+    Fills = fork.Fills Control Stack Destination Joins TakesOut settle depth step inside laws
 
     abbrev Forks : SomePiece → End → Stack → Type 0
-    Forks = Fork Control Stack Destination Joins settle depth step
+    Forks = Fork Control Stack Destination Joins TakesOut settle depth step
 
     abbrev Leads : SomePiece → SomePiece → Type 0
-    Leads = Goes Control Stack Destination Joins settle depth step
+    Leads = Goes Control Stack Destination Joins TakesOut settle depth step
 
     abbrev Learns : Log → Log → Type 0
-    Learns = Hears Control Stack Destination Joins settle depth step
+    Learns = Hears Control Stack Destination Joins TakesOut settle depth step
 
     abbrev Halts : (start own : ℕ) → Control → Stack → Log → Own → Type 0
-    Halts = Stops Control Stack Destination Joins settle depth step
+    Halts = Stops Control Stack Destination Joins TakesOut settle depth step
 
     abbrev so : Log → Sum
     so = log_sum Control Stack Destination
 
     abbrev Falls : Sum → Type 0
-    Falls = fork.Falls Control Stack Destination Joins settle depth step inside laws
+    Falls = fork.Falls Control Stack Destination Joins TakesOut settle depth step inside laws
 
     abbrev new : (start own : ℕ) → Control → Stack → Log → SomePiece
     new = piece Control Stack Destination
@@ -87,6 +87,15 @@ module _ (Control Stack Destination : Type 0) (Joins : Stack → Stack → Stack
     joins_fill (other ne j) (kept_ f) = let r = joins_fill j f in (_, kept_ r.1, other ne r.2)
     joins_fill (other ne j) (filled_ e f) = let r = joins_fill j f in (_, filled_ e r.1, other ne r.2)
     joins_fill (taken s j) (kept_ f) = let r = joins_fill j f in (_, kept_ r.1, taken s r.2)
+
+    abbrev Back : Log → Stack → Log → Stack → Type 0
+    Back = GivesBack Control Stack Destination Joins TakesOut settle depth step
+
+    back_fill : {log more full : Log} {h g : Stack} → Back log h more g → Fills log full → (late : Log) × Fills more late × Back full h late g
+    back_fill (this y s) (kept_ f) = (_, kept_ f, this y s)
+    back_fill (deeper y) (number_ f) = let r = back_fill y f in (_, number_ r.1, deeper r.2)
+    back_fill (deeper y) (kept_ f) = let r = back_fill y f in (_, kept_ r.1, deeper r.2)
+    back_fill (deeper y) (filled_ e f) = let r = back_fill y f in (_, filled_ e r.1, deeper r.2)
 
     fallen_filled : {log full : Log} → Fallen Control Stack Destination log → Fills log full → Fallen Control Stack Destination full
     fallen_filled by_trap (kept_ f) = by_trap
@@ -108,7 +117,7 @@ module _ (Control Stack Destination : Type 0) (Joins : Stack → Stack → Stack
     one_words c h start d (Trapped p y m) v w is a b = absurd is
     one_words c h start d Spent v w is a b = absurd is
 
-    module _ (weight : Control → ℕ) (lighter : (c : Control) (h : Stack) → Lighter Control Stack Destination Joins settle depth step inside laws weight c (step c h)) (fine : Fine Control Stack Destination Joins settle depth step inside laws) (main : Control) (words : Stack)
+    module _ (weight : Control → ℕ) (lighter : (c : Control) (h : Stack) → Lighter Control Stack Destination Joins TakesOut settle depth step inside laws weight c (step c h)) (fine : Fine Control Stack Destination Joins TakesOut settle depth step inside laws) (main : Control) (words : Stack)
         (Size : Type 0) (size : Control → Size) (size_inside : (c k : Control) (x : Destination) → size (inside c x k) ≡ size c) where
       open fine use {Okay, not_stuck, goes_okay, child_okay}
 
@@ -132,7 +141,7 @@ module _ (Control Stack Destination : Type 0) (Joins : Stack → Stack → Stack
       AllKin [] = ⊤
       AllKin (printed v ∷ log) = AllKin log
       AllKin (child d at x j q awaited ∷ log) = ⊥
-      AllKin (child d at x j q (told e w) ∷ log) = (IsDone e × Good q.call q.lent) × Sees q.call q.lent q.start e w × Okay (call_of q) × Embeds q.call q.lent × AllKin log
+      AllKin (child d at x j q (told e w) ∷ log) = (IsDone e × Good q.call q.lent) × ((u : Stack) × Sees q.call q.lent q.start e u) × Okay (call_of q) × Embeds q.call q.lent × AllKin log
 
       -- each joined child was told
       abbrev AreTold : Log → Type 0
@@ -180,8 +189,8 @@ module _ (Control Stack Destination : Type 0) (Joins : Stack → Stack → Stack
       goes_well start own c call h lent log spent e f = let x = e.4 in absurd (finish.too_many Control Stack Destination step inside x.1 (finish.halts_by Control Stack Destination step inside _ _ x.2 tt) x.3 f.comes f.more)
 
       kin_of : {d o : ℕ} {x : Destination} {j : Bool} {q : Ask Control Stack Destination} {r : Answer Control Stack Destination} {log full : Log} → HasNote Control Stack Destination log (child d o x j q r) → Fills log full → AllKin full → Kin q
-      kin_of here (kept_ {e = e} {w = w} f) k = record { end_ = e; words_ = w; is_done = k.0.0; good = k.0.1; says = k.1; okay = k.2; embeds = k.3 }
-      kin_of here (filled_ {e = e} {w = w} y f) k = record { end_ = e; words_ = w; is_done = k.0.0; good = k.0.1; says = k.1; okay = k.2; embeds = k.3 }
+      kin_of here (kept_ {e = e} f) k = record { end_ = e; words_ = k.1.0; is_done = k.0.0; good = k.0.1; says = k.1.1; okay = k.2; embeds = k.3 }
+      kin_of here (filled_ {e = e} y f) k = record { end_ = e; words_ = k.1.0; is_done = k.0.0; good = k.0.1; says = k.1.1; okay = k.2; embeds = k.3 }
       kin_of (deeper c) (number_ f) k = kin_of c f k
       kin_of (deeper c) (kept_ f) k = kin_of c f k.4
       kin_of (deeper c) (filled_ y f) k = kin_of c f k.4
@@ -195,9 +204,23 @@ module _ (Control Stack Destination : Type 0) (Joins : Stack → Stack → Stack
       kin_joined (other {r = told e w} ne j) k = (k.0, k.1, k.2, k.3, kin_joined j k.4)
       kin_joined (taken s j) k = (k.0, k.1, k.2, k.3, kin_joined j k.4)
 
+      kin_back : {log more : Log} {h g : Stack} → Back log h more g → AllKin log → AllKin more
+      kin_back (this y s) k = k
+      kin_back (deeper {n = printed v} y) k = kin_back y k
+      kin_back (deeper {n = child d at x j q awaited} y) k = absurd k
+      kin_back (deeper {n = child d at x j q (told e w)} y) k = (k.0, k.1, k.2, k.3, kin_back y k.4)
+
+      back_told : {log more : Log} {h g : Stack} → Back log h more g → AreTold log → AreTold more
+      back_told (this y s) a = a
+      back_told (deeper {n = printed v} y) a = back_told y a
+      back_told (deeper {n = child d at x true q awaited} y) a = absurd a
+      back_told (deeper {n = child d at x true q (told e w)} y) a = back_told y a
+      back_told (deeper {n = child d at x false q r} y) a = back_told y a
+
       heard : {log more full : Log} → Learns log more → Fills log full → AllKin full → Fills more full
       heard (this {d = d} {o = o} {x = x} {q = q} {j = j} {e = e} {w = w} {log = log} f) (filled_ {e = e2} {w = w2} {more = rest} y r) k =
-          let s = one_words q.call q.lent q.start e e2 w w2 k.0.0 (fork.forks_mean Control Stack Destination Joins settle depth step inside laws q e w k.0.1 f) k.1 in
+          let says = fork.means Control Stack Destination Joins TakesOut settle depth step inside laws y q.call q.lent (fork.begins Control Stack Destination Joins TakesOut settle depth step inside laws q k.0.1) in
+          let s = one_words q.call q.lent q.start e e2 w w2 k.0.0 (fork.forks_mean Control Stack Destination Joins TakesOut settle depth step inside laws q e w k.0.1 f) says in
           subst (λ z. Fills (child d o x j q (told z w) ∷ log) (child d o x j q (told e2 w2) ∷ rest)) (sym s.0) (subst (λ z. Fills (child d o x j q (told e2 z) ∷ log) (child d o x j q (told e2 w2) ∷ rest)) (sym s.1) (kept_ r))
       heard (deeper h) (number_ f) k = number_ (heard h f k)
       heard (deeper h) (kept_ f) k = kept_ (heard h f k.4)
@@ -218,33 +241,33 @@ module _ (Control Stack Destination : Type 0) (Joins : Stack → Stack → Stack
           f = subst (λ q. Follows s.call s.lent start own c h s.full q) z.2 s.follows
 
           good : Good call lent × Good t g
-          good = fork.step_good Control Stack Destination Joins settle depth step inside laws c h _ e f.6
+          good = fork.step_good Control Stack Destination Joins TakesOut settle depth step inside laws c h _ e f.6
 
           counted_ : Counts Control Stack Destination s.full m
-          counted_ = fork.counts_filled Control Stack Destination Joins settle depth step inside laws s.fills k
+          counted_ = fork.counts_filled Control Stack Destination Joins TakesOut settle depth step inside laws s.fills k
 
           callee : Okay (call_of ask)
           callee = child_okay (goes_okay s.okay (parting e counted_)) here
 
           y : Finds (start - (own + m)) 0 call lent []
-          y = existence.always Control Stack Destination Joins settle depth step inside laws weight lighter fine ask good.0 callee
+          y = existence.always Control Stack Destination Joins TakesOut settle depth step inside laws weight lighter fine ask good.0 callee
 
           says : Sees call lent (start - (own + m)) y.0 y.1
-          says = fork.means Control Stack Destination Joins settle depth step inside laws y.2 call lent (fork.begins Control Stack Destination Joins settle depth step inside laws ask good.0)
+          says = fork.means Control Stack Destination Joins TakesOut settle depth step inside laws y.2 call lent (fork.begins Control Stack Destination Joins TakesOut settle depth step inside laws ask good.0)
 
           follows : Follows s.call s.lent start own t g (child (depth c) own x false ask (told y.0 y.1) ∷ s.full) (so (child (depth c) own x false ask (told y.0 y.1) ∷ s.full))
-          follows = fork.follows_part Control Stack Destination Joins settle depth step inside laws s.call s.lent start own s.full y.1 e counted_ (so s.full) refl s.follows y.0 (λ z. says)
+          follows = fork.follows_part Control Stack Destination Joins TakesOut settle depth step inside laws s.call s.lent start own s.full y.1 e counted_ (so s.full) refl s.follows y.0 (λ z. says)
 
           -- the child's elision lies in this call's
           inner : Embeds call lent
           inner o n d u r =
-              let m_ = fork.moves_at Control Stack Destination Joins settle depth step inside laws c h _ e f.6 in
-              let under : Under (floor c) f.0 = fork.owed_under Control Stack Destination Joins settle depth step inside laws (base s.call) (floor c) s.full f.0 f.3 in
-              let b = fork.beside_at Control Stack Destination Joins settle depth step inside laws c h f.0 f.1 _ e f.4 under in
+              let m_ = fork.moves_at Control Stack Destination Joins TakesOut settle depth step inside laws c h _ e f.6 in
+              let under : Under (floor c) f.0 = fork.owed_under Control Stack Destination Joins TakesOut settle depth step inside laws (base s.call) (floor c) s.full f.0 f.3 in
+              let b = fork.beside_at Control Stack Destination Joins TakesOut settle depth step inside laws c h f.0 f.1 _ e f.4 under in
               let parted = assoc m_.5 f.4 in
               let below : Under (base call) parted.0 = subst (λ q. Under q parted.0) (sym m_.3) (under_sum parted.1 m_.6 (under_more m_.7 under)) in
-              let fr = fork.framed Control Stack Destination Joins settle depth step inside laws r parted.0 f.1 good.0 parted.2 below in
-              let run : Runs s.call s.lent (z.0 ++ o) ((own + z.1) + n) (inside d x t) fr.0 = fork.chain Control Stack Destination Joins settle depth step inside f.2 (quiet (ap (fork.elided Control Stack Destination Joins settle depth step inside laws f.1) b.2) (fork.nested Control Stack Destination Joins settle depth step inside laws x t fr.1)) in
+              let fr = fork.framed Control Stack Destination Joins TakesOut settle depth step inside laws r parted.0 f.1 good.0 parted.2 below in
+              let run : Runs s.call s.lent (z.0 ++ o) ((own + z.1) + n) (inside d x t) fr.0 = fork.chain Control Stack Destination Joins TakesOut settle depth step inside f.2 (quiet (ap (fork.elided Control Stack Destination Joins TakesOut settle depth step inside laws f.1) b.2) (fork.nested Control Stack Destination Joins TakesOut settle depth step inside laws x t fr.1)) in
               let y = s.embeds _ _ _ _ run in
               (y.0, y.1, y.2, y.3, y.4, y.5 ∙ size_inside d t x)
 
@@ -260,8 +283,8 @@ module _ (Control Stack Destination : Type 0) (Joins : Stack → Stack → Stack
             full = child (depth c) own x false ask (told a w) ∷ s.full;
             fills = filled_ early_ s.fills;
             follows = f;
-            okay = goes_okay (goes_okay s.okay (parting e counted_)) (hearing (this (existence.later_on Control Stack Destination Joins settle depth step inside laws tt early_)));
-            kin = ((done_by a (so s.full) going_.0 going_.1 going_.2, good.0), says_, callee, inner, s.kin);
+            okay = goes_okay (goes_okay s.okay (parting e counted_)) (hearing (this (existence.later_on Control Stack Destination Joins TakesOut settle depth step inside laws tt early_)));
+            kin = ((done_by a (so s.full) going_.0 going_.1 going_.2, good.0), (w, says_), callee, inner, s.kin);
             told_ = s.told_;
           }
             where
@@ -278,9 +301,9 @@ module _ (Control Stack Destination : Type 0) (Joins : Stack → Stack → Stack
       stands_after start own c h log p s l = by s l
         where
           by : {a b : SomePiece} → Stands a.start a.own a.control a.held a.log → Leads a b → Stands b.start b.own b.control b.held b.log
-          by s (silently {start = start} {own = own} e) = record { call = s.call; lent = s.lent; ended = s.ended; embeds = s.embeds; full = s.full; fills = s.fills; follows = fork.follows_silent Control Stack Destination Joins settle depth step inside laws s.call s.lent start own s.full e (so s.full) s.follows; okay = goes_okay s.okay (silently e); kin = s.kin; told_ = s.told_ }
-          by s (ticking {start = start} {own = own} e k l) = record { call = s.call; lent = s.lent; ended = s.ended; embeds = s.embeds; full = s.full; fills = s.fills; follows = fork.follows_tick Control Stack Destination Joins settle depth step inside laws s.call s.lent start own s.full e (so s.full) s.follows; okay = goes_okay s.okay (ticking e (fork.counts_filled Control Stack Destination Joins settle depth step inside laws s.fills k) l); kin = s.kin; told_ = s.told_ }
-          by s (showing {start = start} {own = own} {v = v} e) = record { call = s.call; lent = s.lent; ended = s.ended; embeds = s.embeds; full = printed v ∷ s.full; fills = number_ s.fills; follows = fork.follows_print Control Stack Destination Joins settle depth step inside laws s.call s.lent start own s.full e (so s.full) s.follows; okay = goes_okay s.okay (showing e); kin = s.kin; told_ = s.told_ }
+          by s (silently {start = start} {own = own} e) = record { call = s.call; lent = s.lent; ended = s.ended; embeds = s.embeds; full = s.full; fills = s.fills; follows = fork.follows_silent Control Stack Destination Joins TakesOut settle depth step inside laws s.call s.lent start own s.full e (so s.full) s.follows; okay = goes_okay s.okay (silently e); kin = s.kin; told_ = s.told_ }
+          by s (ticking {start = start} {own = own} e k l) = record { call = s.call; lent = s.lent; ended = s.ended; embeds = s.embeds; full = s.full; fills = s.fills; follows = fork.follows_tick Control Stack Destination Joins TakesOut settle depth step inside laws s.call s.lent start own s.full e (so s.full) s.follows; okay = goes_okay s.okay (ticking e (fork.counts_filled Control Stack Destination Joins TakesOut settle depth step inside laws s.fills k) l); kin = s.kin; told_ = s.told_ }
+          by s (showing {start = start} {own = own} {v = v} e) = record { call = s.call; lent = s.lent; ended = s.ended; embeds = s.embeds; full = printed v ∷ s.full; fills = number_ s.fills; follows = fork.follows_print Control Stack Destination Joins TakesOut settle depth step inside laws s.call s.lent start own s.full e (so s.full) s.follows; okay = goes_okay s.okay (showing e); kin = s.kin; told_ = s.told_ }
           by s (joining {start = start} {own = own} {t = t} {g = g} e j k l) =
               let r = joins_fill j s.fills in
               record {
@@ -290,16 +313,30 @@ module _ (Control Stack Destination : Type 0) (Joins : Stack → Stack → Stack
                 embeds = s.embeds;
                 full = r.0;
                 fills = r.1;
-                follows = subst (λ z. Follows s.call s.lent start own t g r.0 z) (sym (fork.joined_sofar Control Stack Destination Joins settle depth step inside laws r.2)) (fork.follows_join Control Stack Destination Joins settle depth step inside laws s.call s.lent start own e r.2 (so s.full) s.follows);
-                okay = goes_okay s.okay (joining e r.2 (fork.counts_filled Control Stack Destination Joins settle depth step inside laws r.1 k) l);
+                follows = subst (λ z. Follows s.call s.lent start own t g r.0 z) (sym (fork.joined_sofar Control Stack Destination Joins TakesOut settle depth step inside laws r.2)) (fork.follows_join Control Stack Destination Joins TakesOut settle depth step inside laws s.call s.lent start own e r.2 (so s.full) s.follows);
+                okay = goes_okay s.okay (joining e r.2 (fork.counts_filled Control Stack Destination Joins TakesOut settle depth step inside laws r.1 k) l);
                 kin = kin_joined r.2 s.kin;
                 told_ = joined_told j s.told_;
               }
           by s (parting {start = start} {own = own} {m = m} {c = c} {t = t} {call = call} {h = h} {g = g} {lent = lent} {x = x} {log = log} e k) = stands_child start own m c t call h g lent x log e k s
           by s (hearing h) = record { call = s.call; lent = s.lent; ended = s.ended; embeds = s.embeds; full = s.full; fills = heard h s.fills s.kin; follows = s.follows; okay = s.okay; kin = s.kin; told_ = learned_told h s.told_ }
+          by s (returning {start = start} {own = own} {c = c} {g = g} y) =
+              let r = back_fill y s.fills in
+              record {
+                call = s.call;
+                lent = s.lent;
+                ended = s.ended;
+                embeds = s.embeds;
+                full = r.0;
+                fills = r.1;
+                follows = subst (λ z. Follows s.call s.lent start own c g r.0 z) (sym (fork.back_sofar Control Stack Destination Joins TakesOut settle depth step inside laws r.2)) (fork.follows_back Control Stack Destination Joins TakesOut settle depth step inside laws s.call s.lent start own c r.2 (so s.full) s.follows);
+                okay = goes_okay s.okay (returning r.2);
+                kin = kin_back r.2 s.kin;
+                told_ = back_told y s.told_;
+              }
 
       stands_call : (q : Ask Control Stack Destination) → Kin q → Stands q.start 0 q.call q.lent []
-      stands_call q k = record { call = q.call; lent = q.lent; ended = by k.end_ k.is_done k.says; embeds = k.embeds; full = []; fills = empty_; follows = fork.begins Control Stack Destination Joins settle depth step inside laws q k.good; okay = k.okay; kin = tt; told_ = tt }
+      stands_call q k = record { call = q.call; lent = q.lent; ended = by k.end_ k.is_done k.says; embeds = k.embeds; full = []; fills = empty_; follows = fork.begins Control Stack Destination Joins TakesOut settle depth step inside laws q k.good; okay = k.okay; kin = tt; told_ = tt }
         where
           by : (e : End) → IsDone e → Sees q.call q.lent q.start e k.words_ → IsEnd q.start q.call q.lent
           by (Done o v n) is s = (o, v, n, k.words_, s)
@@ -308,14 +345,14 @@ module _ (Control Stack Destination : Type 0) (Joins : Stack → Stack → Stack
 
       -- each reached piece stands in a shadow that goes on to a value
       pub reached_stands : (start : ℕ) → Good main words → Okay (call_of (record { start = start; call = main; lent = words })) → IsEnd start main words → (p : SomePiece)
-          → Reached Control Stack Destination Joins settle depth step (call_of (record { start = start; call = main; lent = words })) p → Stands p.start p.own p.control p.held p.log
-      reached_stands start good okay ended _ itself = record { call = main; lent = words; ended = ended; embeds = λ o n c u r. (o, n, c, u, r, refl); full = []; fills = empty_; follows = fork.begins Control Stack Destination Joins settle depth step inside laws (record { start = start; call = main; lent = words }) good; okay = okay; kin = tt; told_ = tt }
+          → Reached Control Stack Destination Joins TakesOut settle depth step (call_of (record { start = start; call = main; lent = words })) p → Stands p.start p.own p.control p.held p.log
+      reached_stands start good okay ended _ itself = record { call = main; lent = words; ended = ended; embeds = λ o n c u r. (o, n, c, u, r, refl); full = []; fills = empty_; follows = fork.begins Control Stack Destination Joins TakesOut settle depth step inside laws (record { start = start; call = main; lent = words }) good; okay = okay; kin = tt; told_ = tt }
       reached_stands start good okay ended _ (then {p = p} {q = q} r g) = stands_after p.start p.own p.control p.held p.log q (reached_stands start good okay ended p r) g
       reached_stands start good okay ended _ (its_child {p = p} {q = q} r c) = let s = reached_stands start good okay ended p r in stands_call q (kin_of c s.fills s.kin)
 
       -- the frames of a reached piece are those of a state of the elision
       pub reached_frames : (start : ℕ) → Good main words → Okay (call_of (record { start = start; call = main; lent = words })) → IsEnd start main words → (p : SomePiece)
-          → Reached Control Stack Destination Joins settle depth step (call_of (record { start = start; call = main; lent = words })) p
+          → Reached Control Stack Destination Joins TakesOut settle depth step (call_of (record { start = start; call = main; lent = words })) p
           → (o : List ℤ) × (n : ℕ) × (c : Control) × (u : Stack) × Runs main words o n c u × (size c ≡ size p.control)
       reached_frames start good okay ended p r =
           let s = reached_stands start good okay ended p r in
@@ -338,7 +375,7 @@ module _ (Control Stack Destination : Type 0) (Joins : Stack → Stack → Stack
 
       -- a reached piece at its end has returned
       pub reached_ends : (start : ℕ) → Good main words → Okay (call_of (record { start = start; call = main; lent = words })) → IsEnd start main words → (p : SomePiece) (o : Own)
-          → Reached Control Stack Destination Joins settle depth step (call_of (record { start = start; call = main; lent = words })) p
+          → Reached Control Stack Destination Joins TakesOut settle depth step (call_of (record { start = start; call = main; lent = words })) p
           → Halts p.start p.own p.control p.held p.log o → AllDone Control Stack Destination p.log × (v : Option ℤ) × (step p.control p.held ≡ ends v) × Good p.control p.held
       reached_ends start good okay ended p o r halts = at_end (by halts)
         where
@@ -351,12 +388,12 @@ module _ (Control Stack Destination : Type 0) (Joins : Stack → Stack → Stack
           at_end : ((v : Option ℤ) × (step p.control p.held ≡ ends v)) → AllDone Control Stack Destination p.log × (v : Option ℤ) × (step p.control p.held ≡ ends v) × Good p.control p.held
           at_end e =
               let f : Follows s.call s.lent p.start p.own p.control p.held s.full (going z.0 z.1) = subst (λ q. Follows s.call s.lent p.start p.own p.control p.held s.full q) z.2 s.follows in
-              let m = fork.moves_at Control Stack Destination Joins settle depth step inside laws p.control p.held _ e.1 f.6 in
+              let m = fork.moves_at Control Stack Destination Joins TakesOut settle depth step inside laws p.control p.held _ e.1 f.6 in
               (all_done (base s.call) (floor p.control) f.0 (let a = m.1 in let b = f.5 in omega (arith, a, b)) f.3 s.fills s.kin s.told_, e.0, e.1, f.6)
 
           -- what the shadow of the piece at this end would be
           seen : {a : Own} {e : End} → Halts p.start p.own p.control p.held s.full a → Decides p.start p.own (so s.full) a e → Sees s.call s.lent p.start e p.held
-          seen h d = fork.decided Control Stack Destination Joins settle depth step inside laws s.call s.lent _ refl s.follows h d
+          seen h d = fork.decided Control Stack Destination Joins TakesOut settle depth step inside laws s.call s.lent _ refl s.follows h d
 
           no_spent : Halts p.start p.own p.control p.held s.full runs_out → ⊥
           no_spent h = apart (finish.one_end Control Stack Destination step inside s.call s.lent p.start (Done s.ended.0 s.ended.1 s.ended.2) Spent s.ended.3 p.held s.ended.4 (seen h (subst (λ q. Decides p.start p.own q runs_out Spent) (sym z.2) own_spent)))
@@ -372,6 +409,6 @@ module _ (Control Stack Destination : Type 0) (Joins : Stack → Stack → Stack
           by : {a : Own} → Halts p.start p.own p.control p.held p.log a → (v : Option ℤ) × (step p.control p.held ≡ ends v)
           by (by_trap {k = k} e) = absurd (no_trap k (by_trap e))
           by (by_return {v = v} e) = (v, e)
-          by (by_tick e k l) = absurd (no_spent (by_tick e (fork.counts_filled Control Stack Destination Joins settle depth step inside laws s.fills k) l))
-          by (by_sync e j k l) = let y = joins_fill j s.fills in absurd (no_spent (by_sync e y.2 (fork.counts_filled Control Stack Destination Joins settle depth step inside laws y.1 k) l))
-          by (by_child f) = absurd (subst (λ q. Falls q) z.2 (fork.fallen Control Stack Destination Joins settle depth step inside laws (fallen_filled f s.fills)))
+          by (by_tick e k l) = absurd (no_spent (by_tick e (fork.counts_filled Control Stack Destination Joins TakesOut settle depth step inside laws s.fills k) l))
+          by (by_sync e j k l) = let y = joins_fill j s.fills in absurd (no_spent (by_sync e y.2 (fork.counts_filled Control Stack Destination Joins TakesOut settle depth step inside laws y.1 k) l))
+          by (by_child f) = absurd (subst (λ q. Falls q) z.2 (fork.fallen Control Stack Destination Joins TakesOut settle depth step inside laws (fallen_filled f s.fills)))

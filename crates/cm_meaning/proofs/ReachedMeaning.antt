@@ -4,7 +4,7 @@ use Rattle.std.proofs.Math.Nat.{lt-div-mul-add}
 use Rattle.std.specs.Prelude.{◌-◌, ℤ}
 use Rattle.cm_syntax.specs.declared.stmt.Program.{Program}
 use Rattle.cm_syntax.specs.Label.{silent, ticks, prints, spawns, syncs, traps, ends, stuck}
-use Rattle.cm_syntax.specs.Stack.{Stack, Destination, StackSum, settle, empty_stack}
+use Rattle.cm_syntax.specs.Stack.{Stack, Destination, StackSum, SharesBack, settle, empty_stack}
 use Rattle.cm_syntax.specs.Rest.{Item, end, idle, Control, control}
 use Rattle.cm_syntax.specs.Step.{Move, step, depth, inside, call_bytes}
 use Rattle.cm_meaning.specs.End.{End, Done}
@@ -28,10 +28,10 @@ module _ (program : Program) (page : ℕ) (input : List ℤ) where
   abbrev stepped : Control → Stack → Move
   stepped = step program page input
 
-  lighter : (c : Control) (h : Stack) → Lighter Control Stack Destination StackSum settle depth stepped inside (laws program page input) (weight program) c (stepped c h)
+  lighter : (c : Control) (h : Stack) → Lighter Control Stack Destination StackSum SharesBack settle depth stepped inside (laws program page input) (weight program) c (stepped c h)
   lighter c h = by (stepped c h) (lowers program page input c h)
     where
-      by : (x : Move) → LowersWeight program c x → Lighter Control Stack Destination StackSum settle depth stepped inside (laws program page input) (weight program) c x
+      by : (x : Move) → LowersWeight program c x → Lighter Control Stack Destination StackSum SharesBack settle depth stepped inside (laws program page input) (weight program) c x
       by (silent t g) f = f
       by (ticks t g) f = tt
       by (prints v t g) f = f
@@ -42,7 +42,7 @@ module _ (program : Program) (page : ℕ) (input : List ℤ) where
       by stuck f = tt
 
   -- what is reached from a piece from which no stuck one is
-  reaching : (first : Piece) → IsNeverStuck program page input first → Fine Control Stack Destination StackSum settle depth stepped inside (laws program page input)
+  reaching : (first : Piece) → IsNeverStuck program page input first → Fine Control Stack Destination StackSum SharesBack settle depth stepped inside (laws program page input)
   reaching first never = record {
     Okay = Reached program page input first;
     not_stuck = λ r e. never _ r e;
@@ -53,7 +53,7 @@ module _ (program : Program) (page : ℕ) (input : List ℤ) where
   pub fork_end : (ask : Ask) → IsSettled ask.call ask.lent → IsNeverStuck program page input (begun ask) → (e : End) × (w : Stack) × Fork program page input (begun ask) e w
   unfolding laws reaching
   fork_end ask settled never =
-      existence.fork_end Control Stack Destination StackSum settle depth stepped inside (laws program page input) (weight program) lighter (reaching (begun ask) never) ask settled itself
+      existence.fork_end Control Stack Destination StackSum SharesBack settle depth stepped inside (laws program page input) (weight program) lighter (reaching (begun ask) never) ask settled itself
 
   -- the frames and the account that the rest of a settled state comes back to
   returning : (k : List Item) (calls : List ℕ) (account : ℕ) → end_count k ≤ length calls → (less : List ℕ) × (more : ℕ) × IsLevel program page input None (control less more idle []) k calls account
@@ -81,7 +81,7 @@ module _ (program : Program) (input : List ℤ) (limits : Limits) (never : IsNev
   pub piece_ends : (p : Piece) (o : Own) → Reached program limits.page input First p → Stops program limits.page input p.start p.own p.control p.held p.log o → (p.control.rest ≡ []) × AllDone p.log
   unfolding laws reaching
   piece_ends p o r stops =
-      let e = reached.reached_ends Control Stack Destination StackSum settle depth (step program limits.page input) inside (laws program limits.page input) (weight program)
+      let e = reached.reached_ends Control Stack Destination StackSum SharesBack settle depth (step program limits.page input) inside (laws program limits.page input) (weight program)
       (lighter program limits.page input) (reaching program limits.page input First never) (first_control program limits) empty_stack (List ℕ) (λ c. c.calls) same_calls limits.ticks
       (first_settled program.main (limits.stack * limits.page)) itself (out, v, n, serial.0, serial.1) p o r stops in
       (nothing_left program limits.page input p.control p.held e.1 e.3 e.2, e.0)
@@ -89,7 +89,7 @@ module _ (program : Program) (input : List ℤ) (limits : Limits) (never : IsNev
   pub piece_bound : (p : Piece) (measure : List ℕ → ℕ) (most : ℕ) → Reached program limits.page input First p → IsGreatest program input limits measure most → measure p.control.calls ≤ most
   unfolding laws reaching
   piece_bound p measure most r greatest =
-      let e = reached.reached_frames Control Stack Destination StackSum settle depth (step program limits.page input) inside (laws program limits.page input) (weight program)
+      let e = reached.reached_frames Control Stack Destination StackSum SharesBack settle depth (step program limits.page input) inside (laws program limits.page input) (weight program)
       (lighter program limits.page input) (reaching program limits.page input First never) (first_control program limits) empty_stack (List ℕ) (λ c. c.calls) same_calls limits.ticks
       (first_settled program.main (limits.stack * limits.page)) itself (out, v, n, serial.0, serial.1) p r in
       let whole = finish.prefix Control Stack Destination (step program limits.page input) inside serial.1.1

@@ -1,17 +1,20 @@
 -- At its end a call inside its caller leads to the continuation.
-use Rattle.std.proofs.Common.{◌≡◌, ℕ, ◌+◌, ◌≤◌, List, [], ◌∷◌, length, Option, None, Some, refl, sym, ap, ◌∙◌, subst, arith, inl, inr}
+use Rattle.std.proofs.Common.{◌≡◌, ℕ, ◌+◌, ◌≤◌, List, [], ◌∷◌, length, Option, None, Some, refl, sym, ap, ◌∙◌, subst, arith}
 use Rattle.std.proofs.lemmas.Bool.{leb-true}
-use Rattle.std.proofs.lemmas.Bool.Decides.{eqb_tells}
-use Rattle.std.specs.Prelude.{◌-◌, Bool, true, false, ◌==◌, if◌then◌else◌, nat_le, ℤ, ⊤, slice_get}
+use Rattle.std.specs.Prelude.{◌-◌, Bool, true, false, ◌==◌, ◌&&◌, if◌then◌else◌, nat_le, ℤ, ⊤, slice_get}
 use Rattle.cm_syntax.specs.declared.stmt.Function.{Function}
 use Rattle.cm_syntax.specs.declared.stmt.Program.{Program}
 use Rattle.cm_syntax.specs.Trap as kind
 use Rattle.cm_syntax.specs.Label.{silent, ticks, prints, spawns, syncs, traps, ends, stuck}
-use Rattle.cm_syntax.specs.Stack.{Cell, absent, unset, present, Stack, Destination, Argument, write_word, push_frame, empty_stack, settle_cell, settle, CellSum, StackSum}
+use Rattle.cm_syntax.specs.Cell.{Cell, present, settle_cell, CellSum, may_write}
+use Rattle.cm_syntax.specs.Stack.{Stack, Destination, Argument, write_word, push_frame, empty_stack, settle, StackSum}
 use Rattle.cm_syntax.specs.Rest.{Item, body, fall, join, end, Hand, idle, holds, returned, entering, framing, Control, control}
-use Rattle.cm_syntax.specs.Step.{Move, frame_count, to, inside, when_held, call_bytes_in, deliver_value, push_call, item_step, hand_step, step}
+use Rattle.cm_syntax.specs.Step.{Move, frame_count, to, inside, call_bytes_in, deliver_value, push_call, item_step, hand_step, step}
 use Rattle.cm_meaning.specs.Elision.{serial, here, quiet, tick as one_tick, show as one_number}
 use Rattle.cm_meaning.specs.Meaning.{serial_step, Comes}
+use Rattle.cm_syntax.proofs.CellLaw.{writable_sum, settle_sum, settle_writable}
+use Rattle.cm_syntax.proofs.AccessLaw.{writes_on}
+use Rattle.cm_meaning.proofs.BesideLaw.{one_place, sum_if}
 use Rattle.cm_meaning.specs.Law.{HoldsDestination, IsInside, arrival}
 use Rattle.cm_meaning.proofs.SumLaw.{alone_, same}
 use Rattle.cm_meaning.proofs.InsideLaw.{within}
@@ -98,38 +101,12 @@ module _ (program : Program) (page : ℕ) (input : List ℤ) (x : Destination) (
   pub end_is : (c : Control) (h : Stack) (v : Option ℤ) → IsAbove program page input x z c h → step program page input c h ≡ ends v → (c.hand ≡ returned v) × (c.rest ≡ [])
   end_is c h v a e = subst (λ q. Ok_ c h q) e (above_step c h a)
 
-  cell_put : (a b g : Cell ℤ) (v : ℤ) → (a ≡ absent → ⊥) → CellSum a b g → CellSum (settle_cell a v) b (present v)
-  cell_put absent b g v t s = absurd (t refl)
-  cell_put unset absent g v t s = refl
-  cell_put unset unset g v t s = absurd s
-  cell_put unset (present w) g v t s = absurd s
-  cell_put (present u) absent g v t s = refl
-  cell_put (present u) unset g v t s = absurd s
-  cell_put (present u) (present w) g v t s = absurd s
+  cell_put : (a b g : Cell ℤ) (v : ℤ) → may_write a ≡ true → CellSum a b g → CellSum (settle_cell a v) b (present v)
+  cell_put a b g v t s = subst (λ z. CellSum (settle_cell a v) b z) (settle_writable g v (writable_sum a b g s t).0) (settle_sum a b g v s t)
 
-  written_there : (a b g : Cell ℤ) (y : Move) → (a ≡ absent → ⊥) → CellSum a b g → when_held g y ≡ y
-  written_there absent b g y t s = absurd (t refl)
-  written_there unset absent g y t s = ap (λ q. when_held q y) s
-  written_there unset unset g y t s = absurd s
-  written_there unset (present w) g y t s = absurd s
-  written_there (present v) absent g y t s = ap (λ q. when_held q y) s
-  written_there (present v) unset g y t s = absurd s
-  written_there (present v) (present w) g y t s = absurd s
-
-  settled_sum : (h b g : Stack) (d s : ℕ) (v : ℤ) → (h.words d s 0 ≡ absent → ⊥) → StackSum h b g → StackSum (settle (Some (record { depth = d; slot = s })) (Some v) h) b (write_word g d s 0 v)
+  settled_sum : (h b g : Stack) (d s : ℕ) (v : ℤ) → (may_write (h.words d s 0) ≡ true) → StackSum h b g → StackSum (settle (Some (record { depth = d; slot = s })) (Some v) h) b (write_word g d s 0 v)
   settled_sum h b g d s v t o = record {
-    words = λ e r j. elim (eqb_tells e d) [
-      | inr ne ↦ let x : (e == d) ≡ false = ne.0 in rw x (o.words e r j)
-      | inl one ↦ elim (eqb_tells r s) [
-        | inr ne ↦ let x : (e == d) ≡ true = one.0 in let y : (r == s) ≡ false = ne.0 in rw (x, y) (o.words e r j)
-        | inl two ↦ elim (eqb_tells j 0) [
-          | inr ne ↦ let x : (e == d) ≡ true = one.0 in let y : (r == s) ≡ true = two.0 in let w : (j == 0) ≡ false = ne.0 in rw (x, y, w) (o.words e r j)
-          | inl three ↦ let x : (e == d) ≡ true = one.0 in let y : (r == s) ≡ true = two.0 in let w : (j == 0) ≡ true = three.0 in
-              let same_ : h.words e r j ≡ h.words d s 0 = ap (λ q. h.words q r j) one.1 ∙ ap (λ q. h.words d q j) two.1 ∙ ap (λ q. h.words d s q) three.1 in
-              rw (x, y, w) (cell_put (h.words e r j) (b.words e r j) (g.words e r j) v (λ gone. t (sym same_ ∙ gone)) (o.words e r j))
-        ]
-      ]
-    ];
+    words = λ e r j. sum_if (e == d && (r == s && j == 0)) _ (present v) _ _ _ (λ q. let x = one_place e d r s j 0 q in cell_put (h.words e r j) (b.words e r j) (g.words e r j) v ((λ k. may_write (h.words (x.0 k) (x.1 k) (x.2 k))) ∙ t) (o.words e r j)) (o.words e r j);
     references = o.references;
   }
 
@@ -140,7 +117,7 @@ module _ (program : Program) (page : ℕ) (input : List ℤ) (x : Destination) (
       by : (y : Destination) (v : Option ℤ) → HoldsDestination y (length z.calls) h → (i : Stack) × (deliver_value c g (returned v) y z.rest ≡ silent (to c z.rest) i) × StackSum (settle y v h) b i
       by None v t = (g, refl, o)
       by (Some p) None t = (g, refl, o)
-      by (Some p) (Some v) t = (write_word g p.depth p.slot 0 v, written_there (h.words p.depth p.slot 0) (b.words p.depth p.slot 0) (g.words p.depth p.slot 0) (silent (to c z.rest) (write_word g p.depth p.slot 0 v)) t.1 (o.words p.depth p.slot 0), settled_sum h b g p.depth p.slot v t.1 o)
+      by (Some p) (Some v) t = (write_word g p.depth p.slot 0 v, writes_on _ _ (writable_sum _ _ _ (o.words p.depth p.slot 0) t.1).0, settled_sum h b g p.depth p.slot v t.1 o)
 
 -- ---- a whole call
 

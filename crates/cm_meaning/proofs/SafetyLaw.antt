@@ -7,7 +7,8 @@ use Rattle.cm_syntax.specs.declared.stmt.Program.{Program}
 use Rattle.cm_syntax.specs.Trap as kind
 use Rattle.cm_syntax.specs.Fault.{parameter_slots}
 use Rattle.cm_syntax.specs.Label.{silent, traps}
-use Rattle.cm_syntax.specs.Stack.{absent, present, Reference, Stack, Argument, empty_stack, push_frame, pop_frame}
+use Rattle.cm_syntax.specs.Cell.{absent, present}
+use Rattle.cm_syntax.specs.Stack.{Reference, Stack, Argument, empty_stack, push_frame, pop_frame}
 use Rattle.cm_syntax.specs.Rest.{Item, body, fall, join, end, Hand, idle, holds, returned, entering, framing, Control, control}
 use Rattle.cm_syntax.specs.Step.{start_of, hand_value, call_bytes_in, push_call, end_call, item_step, hand_step}
 use Rattle.cm_meaning.specs.Elision as elision

@@ -21,9 +21,11 @@ use Rattle.cm_syntax.specs.Shape.{Joined, Prefixed, Element, InputAt, IfAlone, I
 use Rattle.cm_syntax.specs.Trap as kind
 use Rattle.cm_syntax.specs.Label.{silent, ticks, prints, spawns, syncs, traps, ends, stuck}
 use Rattle.cm_syntax.specs.Operator.{is_zero, natural, binary_value, divides, unary_value}
-use Rattle.cm_syntax.specs.Stack.{Cell, absent, unset, present, Reference, Stack, Destination, Argument, write_word, clear_words, write_parts, is_held, are_held, lent_stack, kept_stack, push_frame, pop_frame, StackSum, IsUnder}
+use Rattle.cm_syntax.specs.Cell.{Cell, absent, unset, present, may_write, shared}
+use Rattle.cm_syntax.specs.Stack.{Reference, Stack, Destination, Argument, write_word, clear_words, write_parts, may_write_all, lent_stack, kept_stack, push_frame, pop_frame, StackSum, IsUnder}
 use Rattle.cm_syntax.specs.Rest.{Purpose, called, spawned, Item, evaluate, right, apply, prefix, both, either, truth, element, read, arguments, pass, take_back, discard, deliver, perform, sequence, body, declare, assign, update, locate, store, branch, turn, test, part, tick, show, exit, fall, join, end, Hand, idle, holds, returned, entering, framing, Control, control}
-use Rattle.cm_syntax.specs.Step.{Move, top, depth, inside, rest_at_join, hand_value, when_present, when_held, when_value, when_result, when_some, write_step, leave, is_index, is_split, slice_in, call_bytes_in, destination_slot, invoke, spawn_call, enter_call, take_value, drop_value, deliver_value, declare_item, do_other, fall_off, slot_at, running_function, when_slice, push_call, end_call, give_input, evaluate_step, statement_step, item_step, hand_step, step}
+use Rattle.cm_syntax.specs.Step.{Move, top, depth, inside, rest_at_join, hand_value, when_readable, when_writable, when_value, when_result, when_some, write_step, leave, is_index, is_split, slice_in, call_bytes_in, destination_slot, invoke, spawn_call, enter_call, take_value, drop_value, deliver_value, declare_item, do_other, fall_off, slot_at, running_function, when_slice, push_call, end_call, give_input, evaluate_step, statement_step, item_step, hand_step, step}
+use Rattle.cm_syntax.proofs.AccessLaw.{reading, writing}
 use Rattle.cm_meaning.specs.Elision.{serial}
 use Rattle.cm_meaning.specs.Activation.{IsInner, IsOuter, FitsHand, end_count, base, IsSettled}
 use Rattle.cm_meaning.specs.Law.{HoldsDestination}
@@ -90,8 +92,8 @@ same_number : (n : ℕ) → (n == n) ≡ true
 same_number n = elim (eqb_tells n n) [ inl one ↦ one.0 | inr ne ↦ absurd (ne.1 refl) ]
 
 -- a destination that is held is lent
-lent_held : (h : Stack) (d s : ℕ) (ws : List Argument) → (h.words d s 0 ≡ absent → ⊥) → (lent_stack h (Some (record { depth = d; slot = s })) ws).words d s 0 ≡ absent → ⊥
-lent_held h d s ws q e = q (sym lent ∙ e)
+lent_held : (h : Stack) (d s : ℕ) (ws : List Argument) → may_write (h.words d s 0) ≡ true → may_write ((lent_stack h (Some (record { depth = d; slot = s })) ws).words d s 0) ≡ true
+lent_held h d s ws q = ap may_write lent ∙ q
   where
     lent : (lent_stack h (Some (record { depth = d; slot = s })) ws).words d s 0 ≡ h.words d s 0
     lent = let x : (d == d) ≡ true = same_number d in let y : (s == s) ≡ true = same_number s in rw (x, y) refl
@@ -100,10 +102,11 @@ pub depth_below : (calls : List ℕ) → 1 ≤ length calls → suc (top calls) 
 depth_below [] l = omega (arith, l)
 depth_below (f ∷ calls) l = refl
 
-is_there : {A : Type 0} (c : Cell A) → is_held c ≡ true → c ≡ absent → ⊥
+is_there : {A : Type 0} (c : Cell A) → may_write c ≡ true → c ≡ absent → ⊥
 is_there absent h e = cc h
 is_there unset h e = cc e
 is_there (present v) h e = cc e
+is_there (shared p v) h e = cc h
 
 abbrev IsPlain : Hand → Type 0
 IsPlain (entering f vs) = ⊥
@@ -169,15 +172,11 @@ module _ (program : Program) (page : ℕ) (input : List ℤ) where
       going : (z : Hand) (r : List Item) → IsInner r → end_count r ≡ end_count k → To (end_count k) (control c.calls c.account z r) h
       going z r i e = to_ c.account z r h i e low
 
-      fits_present : {A : Type 0} (y : Cell A) (f : A → Move) → ((v : A) → (y ≡ absent → ⊥) → Ok (f v)) → Ok (when_present y f)
-      fits_present absent f e = tt
-      fits_present unset f e = tt
-      fits_present (present v) f e = e v (λ q. cc q)
+      fits_present : {A : Type 0} (y : Cell A) (f : A → Move) → ((v : A) → Ok (f v)) → Ok (when_readable y f)
+      fits_present y f e = reading Ok tt y f (λ v q. e v)
 
-      fits_held : {A : Type 0} (y : Cell A) (f : Move) → ((y ≡ absent → ⊥) → Ok f) → Ok (when_held y f)
-      fits_held absent f e = tt
-      fits_held unset f e = e (λ q. cc q)
-      fits_held (present v) f e = e (λ q. cc q)
+      fits_held : {A : Type 0} (y : Cell A) (f : Move) → (may_write y ≡ true → Ok f) → Ok (when_writable y f)
+      fits_held y f e = writing Ok tt y f e
 
       fits_value : (z : Hand) (f : ℤ → Move) → ((v : ℤ) → Ok (f v)) → Ok (when_value z f)
       fits_value (holds v) f e = e v
@@ -193,7 +192,7 @@ module _ (program : Program) (page : ℕ) (input : List ℤ) where
           by : (y : Option Slot) → Ok (slice_in c.calls h y s f)
           by (Some slot.Scalar) = e _
           by (Some (slot.Array w)) = e _
-          by (Some slot.Slice) = fits_present (h.references (top c.calls) s) f (λ v q. e v)
+          by (Some slot.Slice) = fits_present (h.references (top c.calls) s) f e
           by None = tt
 
       fits_result : (p : Op) (v : Option ℤ) (f : ℤ → Move) → ((w : ℤ) → Ok (f w)) → Ok (when_result p v f)
@@ -204,18 +203,18 @@ module _ (program : Program) (page : ℕ) (input : List ℤ) where
       fits_some (Some v) f e = e v
       fits_some None f e = tt
 
-      put_under : (d s i : ℕ) (v : ℤ) → (h.words d s i ≡ absent → ⊥) → IsUnder (length c.calls) (write_word h d s i v)
+      put_under : (d s i : ℕ) (v : ℤ) → may_write (h.words d s i) ≡ true → IsUnder (length c.calls) (write_word h d s i v)
       put_under d s i v there = record {
         words = λ e t j l. elim (eqb_tells e d) [
           | inr ne ↦ let x : (e == d) ≡ false = ne.0 in rw x (low.words e t j l)
-          | inl one ↦ absurd (there (low.words d s i (omega (arith, l, one.1))))
+          | inl one ↦ absurd (is_there (h.words d s i) there (low.words d s i (omega (arith, l, one.1))))
         ];
         references = low.references;
       }
 
       fits_write : (d s i : ℕ) (p : Option Op) (v : ℤ) (r : List Item) → IsInner r → end_count r ≡ end_count k → Ok (write_step c h d s i p v r)
       fits_write d s i None v r n e = fits_held (h.words d s i) _ (λ q. to_ c.account idle r (write_word h d s i v) n e (put_under d s i v q))
-      fits_write d s i (Some p) v r n e = fits_present (h.words d s i) _ (λ old q. fits_result p (binary_value p old v) _ (λ w. to_ c.account idle r (write_word h d s i w) n e (put_under d s i w q)))
+      fits_write d s i (Some p) v r n e = fits_held (h.words d s i) _ (λ q. fits_present (h.words d s i) _ (λ old. fits_result p (binary_value p old v) _ (λ w. to_ c.account idle r (write_word h d s i w) n e (put_under d s i w q))))
 
       fits_spawn : (f : ℕ) (ws : List Argument) (x : Destination) → HoldsDestination x (length c.calls) (lent_stack h x ws) → Ok (spawn_call c h f ws x k)
       fits_spawn f ws x held = let one = some_act k in_ in let l : 1 ≤ length c.calls = omega (arith, one, many) in let d = depth_below c.calls l in record {
@@ -275,7 +274,7 @@ module _ (program : Program) (page : ℕ) (input : List ℤ) where
       fits_leave (end ∷ r) n e = absurd n
       fits_leave (_ ∷ r) n e = fits_leave r n e
 
-      zeroed_under : (d s n : ℕ) → are_held (h.words d s) n ≡ true → IsUnder (length c.calls) (clear_words h d s n)
+      zeroed_under : (d s n : ℕ) → may_write_all (h.words d s) n ≡ true → IsUnder (length c.calls) (clear_words h d s n)
       zeroed_under d s n all = record {
         words = λ e t j l. elim (eqb_tells e d) [
           | inr ne ↦ let x : (e == d) ≡ false = ne.0 in rw x (low.words e t j l)
@@ -284,7 +283,7 @@ module _ (program : Program) (page : ℕ) (input : List ℤ) where
         references = low.references;
       }
         where
-          by : (n : ℕ) → are_held (h.words d s) n ≡ true → (e t j : ℕ) → length c.calls ≤ e → ((e == d) ≡ true) × (e ≡ d) → (clear_words h d s n).words e t j ≡ absent
+          by : (n : ℕ) → may_write_all (h.words d s) n ≡ true → (e t j : ℕ) → length c.calls ≤ e → ((e == d) ≡ true) × (e ≡ d) → (clear_words h d s n).words e t j ≡ absent
           by zero all e t j l one = elim (eqb_tells t s) [
             | inr ne ↦ let x : (e == d) ≡ true = one.0 in let y : (t == s) ≡ false = ne.0 in rw (x, y) (low.words e t j l)
             | inl two ↦ let x : (e == d) ≡ true = one.0 in let y : (t == s) ≡ true = two.0 in let z : nat_lt j 0 ≡ false = not_below j in rw (x, y, z) (low.words e t j l)
@@ -296,30 +295,30 @@ module _ (program : Program) (page : ℕ) (input : List ℤ) where
                   case : (q : Bool) → nat_lt j 0 ≡ q → nat_lt j 0 ≡ false
                   case true g = absurd (none_below j (ltb-true j 0 g))
                   case false g = g
-          by (suc n) all e t j l one = absurd (is_there (h.words d s n) (and_true (is_held (h.words d s n)) (are_held (h.words d s) n) all).0 (low.words d s n (omega (arith, l, one.1))))
+          by (suc n) all e t j l one = absurd (is_there (h.words d s n) (and_true (may_write (h.words d s n)) (may_write_all (h.words d s) n) all).0 (low.words d s n (omega (arith, l, one.1))))
 
       fits_declare : (x : ℕ) (y : Slot) (e : Option (Expr ℕ)) (more : List (items.Item ℕ)) → Ok (declare_item c h x y e more k)
       fits_declare x slot.Scalar None more = fits_write (top c.calls) x 0 None (pos 0) (declare more ∷ k) in_ refl
       fits_declare x slot.Scalar (Some e) more = going idle _ in_ refl
-      fits_declare x (slot.Array n) e more = by (are_held (h.words (top c.calls) x) n) refl
+      fits_declare x (slot.Array n) e more = by (may_write_all (h.words (top c.calls) x) n) refl
         where
-          by : (q : Bool) → are_held (h.words (top c.calls) x) n ≡ q → Ok (declare_item c h x (slot.Array n) e more k)
+          by : (q : Bool) → may_write_all (h.words (top c.calls) x) n ≡ q → Ok (declare_item c h x (slot.Array n) e more k)
           by false l = rw l tt
           by true l = rw l (to_ c.account idle (declare more ∷ k) (clear_words h (top c.calls) x n) in_ refl (zeroed_under (top c.calls) x n l))
       fits_declare x slot.Slice e more = tt
 
-      parted_under : (l r : ℕ) (x : Reference) (p : ℕ) → (h.references (top c.calls) l ≡ absent → ⊥) → IsUnder (length c.calls) (write_parts h (top c.calls) l r x p)
+      parted_under : (l r : ℕ) (x : Reference) (p : ℕ) → may_write (h.references (top c.calls) l) ≡ true → IsUnder (length c.calls) (write_parts h (top c.calls) l r x p)
       parted_under l r x p there = record {
         words = low.words;
         references = λ d s m. elim (eqb_tells d (top c.calls)) [
           | inr ne ↦ let y : (d == top c.calls) ≡ false = ne.0 in rw y (low.references d s m)
-          | inl one ↦ absurd (there (low.references (top c.calls) l (omega (arith, m, one.1))))
+          | inl one ↦ absurd (is_there (h.references (top c.calls) l) there (low.references (top c.calls) l (omega (arith, m, one.1))))
         ];
       }
 
       fits_evaluate : (e : Expr ℕ) → Ok (evaluate_step program page input c h e k)
       fits_evaluate (expression.Number n) = going (holds n) k in_ refl
-      fits_evaluate (expression.Scalar x) = fits_present (h.words (top c.calls) x.name 0) _ (λ v q. going (holds v) k in_ refl)
+      fits_evaluate (expression.Scalar x) = fits_present (h.words (top c.calls) x.name 0) _ (λ v. going (holds v) k in_ refl)
       fits_evaluate (Element p e) = going idle _ in_ refl
       fits_evaluate (expression.Len p) = fits_slice p.name _ (λ r. going (holds (pos r.length)) k in_ refl)
       fits_evaluate (InputAt e) = going idle _ in_ refl
@@ -362,7 +361,7 @@ module _ (program : Program) (page : ℕ) (input : List ℤ) where
     fits_item plain (both r) k n m = fits_value k n m c.hand _ (λ v. fits_if k n m (is_zero v) _ _ (going k n m (holds v) (truth ∷ k) n refl) (going k n m idle _ n refl))
     fits_item plain (either r) k n m = fits_value k n m c.hand _ (λ v. fits_if k n m (is_zero v) _ _ (going k n m idle _ n refl) (going k n m (holds v) (truth ∷ k) n refl))
     fits_item plain truth k n m = fits_value k n m c.hand _ (λ v. going k n m (holds _) k n refl)
-    fits_item plain (element s) k n m = fits_value k n m c.hand _ (λ v. fits_slice k n m s _ (λ r. fits_if k n m (is_index v r.length) _ _ (fits_present k n m (h.words r.depth r.slot (r.start + natural v)) _ (λ w q. going k n m (holds w) k n refl)) tt))
+    fits_item plain (element s) k n m = fits_value k n m c.hand _ (λ v. fits_slice k n m s _ (λ r. fits_if k n m (is_index v r.length) _ _ (fits_present k n m (h.words r.depth r.slot (r.start + natural v)) _ (λ w. going k n m (holds w) k n refl)) tt))
     fits_item plain read k n m = fits_value k n m c.hand _ (λ v. fits_if k n m (is_index v (length input)) _ _ (fits_input k n m (slice_get input (natural v))) tt)
     fits_item plain (arguments u f ws end_of-Arg) k n m = fits_call k n m u f ws
     fits_item plain (arguments u f ws (more_of-Arg (arg.Value e) more)) k n m = going k n m idle _ n refl

@@ -1,48 +1,9 @@
 -- Stacks that are parted and joined.
-use Rattle.std.proofs.Common.{◌≡◌, ℕ, ◌≤◌, List, Option, None, Some, refl, sym, ap, ◌∙◌, subst, arith}
+use Rattle.std.proofs.Common.{◌≡◌, ℕ, ◌≤◌, List, Option, None, Some, refl, ap, arith, subst, ◌∙◌, sym}
 use Rattle.std.specs.Prelude.{Bool, true, false, ◌==◌, ◌&&◌, if◌then◌else◌, ℤ}
-use Rattle.cm_syntax.specs.Stack.{Cell, absent, unset, present, Reference, Stack, Destination, Argument, lends, lent_stack, kept_stack, empty_stack, settle_cell, settle, CellSum, StackSum, IsUnder}
-
-cell_comm : {A : Type 0} (a b c : Cell A) → CellSum a b c → CellSum b a c
-cell_comm absent absent c e = e
-cell_comm absent unset c e = e
-cell_comm absent (present v) c e = e
-cell_comm unset absent c e = e
-cell_comm unset unset c e = absurd e
-cell_comm unset (present v) c e = absurd e
-cell_comm (present v) absent c e = e
-cell_comm (present v) unset c e = absurd e
-cell_comm (present v) (present w) c e = absurd e
-
-cell_assoc : {A : Type 0} (a b c x y : Cell A) → CellSum a b x → CellSum x c y → (z : Cell A) × CellSum b c z × CellSum a z y
-cell_assoc absent b c x y e f = (y, subst (λ q. CellSum q c y) e f, refl)
-cell_assoc unset absent absent x y e f = (absent, refl, subst (λ q. CellSum q absent y) e f)
-cell_assoc unset absent unset x y e f = absurd (subst (λ q. CellSum q unset y) e f)
-cell_assoc unset absent (present w) x y e f = absurd (subst (λ q. CellSum q (present w) y) e f)
-cell_assoc unset unset c x y e f = absurd e
-cell_assoc unset (present w) c x y e f = absurd e
-cell_assoc (present v) absent absent x y e f = (absent, refl, subst (λ q. CellSum q absent y) e f)
-cell_assoc (present v) absent unset x y e f = absurd (subst (λ q. CellSum q unset y) e f)
-cell_assoc (present v) absent (present w) x y e f = absurd (subst (λ q. CellSum q (present w) y) e f)
-cell_assoc (present v) unset c x y e f = absurd e
-cell_assoc (present v) (present w) c x y e f = absurd e
-
-cell_same : {A : Type 0} (a b x y : Cell A) → CellSum a b x → CellSum a b y → x ≡ y
-cell_same absent b x y e f = e ∙ sym f
-cell_same unset absent x y e f = e ∙ sym f
-cell_same unset unset x y e f = absurd e
-cell_same unset (present v) x y e f = absurd e
-cell_same (present v) absent x y e f = e ∙ sym f
-cell_same (present v) unset x y e f = absurd e
-cell_same (present v) (present w) x y e f = absurd e
-
-cell_nothing : {A : Type 0} (a : Cell A) → CellSum a absent a
-cell_nothing absent = refl
-cell_nothing unset = refl
-cell_nothing (present v) = refl
-
-cell_none : {A : Type 0} (a b c : Cell A) → CellSum a b c → a ≡ absent → b ≡ absent → c ≡ absent
-cell_none a b c e f g = subst (λ q. CellSum q absent c) f (subst (λ q. CellSum a q c) g e)
+use Rattle.cm_syntax.specs.Cell.{Cell, absent, settle_cell, CellSum, ComesEarly}
+use Rattle.cm_syntax.specs.Stack.{SharesBack, Reference, Stack, Destination, Argument, loan_of, lent_stack, kept_stack, empty_stack, settle, StackSum, IsUnder}
+use Rattle.cm_syntax.proofs.CellLaw.{cell_comm, cell_assoc, cell_same, cell_nothing, cell_none, loan_sum, lent_absent, kept_absent, early_sum, early_settle, early_absent}
 
 pub comm : {a b c : Stack} → StackSum a b c → StackSum b a c
 comm {a = a} {b = b} {c = c} e = record { words = λ d s i. cell_comm (a.words d s i) (b.words d s i) (c.words d s i) (e.words d s i); references = λ d s. cell_comm (a.references d s) (b.references d s) (c.references d s) (e.references d s) }
@@ -83,25 +44,13 @@ under_sum {a = a} {b = b} {c = c} e f g = record {
 
 -- a spawn parts the words, and the child and the continuation hold empty_stack beyond their frames
 pub part_sum : (h : Stack) (x : Destination) (ws : List Argument) → StackSum (lent_stack h x ws) (kept_stack h x ws) h
-part_sum h x ws = record { words = λ d s i. by (lends x ws d s i) (h.words d s i); references = λ d s. refl }
-  where
-    by : (q : Bool) (c : Cell ℤ) → CellSum (if q then c else absent) (if q then absent else c) c
-    by true c = cell_nothing c
-    by false c = refl
+part_sum h x ws = record { words = λ d s i. loan_sum (loan_of x ws d s i) (h.words d s i); references = λ d s. refl }
 
 pub lent_under : {n : ℕ} (h : Stack) (x : Destination) (ws : List Argument) → IsUnder n h → IsUnder n (lent_stack h x ws)
-lent_under h x ws u = record { words = λ d s i l. by (lends x ws d s i) (h.words d s i) (u.words d s i l); references = λ d s l. refl }
-  where
-    by : (q : Bool) (c : Cell ℤ) → c ≡ absent → (if q then c else absent) ≡ absent
-    by true c e = e
-    by false c e = refl
+lent_under h x ws u = record { words = λ d s i l. lent_absent (loan_of x ws d s i) (h.words d s i) (u.words d s i l); references = λ d s l. refl }
 
 pub kept_under : {n : ℕ} (h : Stack) (x : Destination) (ws : List Argument) → IsUnder n h → IsUnder n (kept_stack h x ws)
-kept_under h x ws u = record { words = λ d s i l. by (lends x ws d s i) (h.words d s i) (u.words d s i l); references = u.references }
-  where
-    by : (q : Bool) (c : Cell ℤ) → c ≡ absent → (if q then absent else c) ≡ absent
-    by true c e = refl
-    by false c e = e
+kept_under h x ws u = record { words = λ d s i l. kept_absent (loan_of x ws d s i) (h.words d s i) (u.words d s i l); references = u.references }
 
 pub settle_under : {n : ℕ} {h : Stack} (x : Destination) (v : Option ℤ) → IsUnder n h → IsUnder n (settle x v h)
 settle_under {h = h} (Some x) (Some v) u = record { words = λ d s i l. by (d == x.depth && (s == x.slot && i == 0)) (h.words d s i) (u.words d s i l); references = u.references }
@@ -111,3 +60,33 @@ settle_under {h = h} (Some x) (Some v) u = record { words = λ d s i l. by (d ==
     by false c e = e
 settle_under (Some x) None u = u
 settle_under None v u = u
+
+-- ---- shares that come back early
+
+pub back_sum : {back rest given : Stack} → SharesBack back rest given → StackSum back rest given
+back_sum {back = back} {rest = rest} {given = given} y = record {
+  words = λ d s i. early_sum (back.words d s i) (rest.words d s i) (given.words d s i) (y.words d s i);
+  references = λ d s. let r = y.references d s in subst (λ z. CellSum z (rest.references d s) (given.references d s)) (sym r.0) (sym r.1);
+}
+
+-- a value goes where the whole is held, so it goes into the rest as into all of it
+pub back_settle : {back rest given : Stack} (x : Destination) (v : Option ℤ) → SharesBack back rest given → SharesBack back (settle x v rest) (settle x v given)
+back_settle {back = back} {rest = rest} {given = given} (Some x) (Some v) y = record {
+  words = λ d s i. by (d == x.depth && (s == x.slot && i == 0)) (back.words d s i) (rest.words d s i) (given.words d s i) (y.words d s i);
+  references = y.references;
+}
+  where
+    by : (q : Bool) (b r g : Cell ℤ) → ComesEarly b r g → ComesEarly b (if q then settle_cell r v else r) (if q then settle_cell g v else g)
+    by true b r g e = early_settle b r g v e
+    by false b r g e = e
+back_settle (Some x) None y = y
+back_settle None v y = y
+
+pub back_under : {n : ℕ} {back rest given : Stack} → SharesBack back rest given → IsUnder n given → IsUnder n back × IsUnder n rest
+back_under {n = n} {back = back} {rest = rest} {given = given} y u = (
+  record { words = λ d s i l. (word_ d s i l).0; references = λ d s l. (y.references d s).0 },
+  record { words = λ d s i l. (word_ d s i l).1; references = λ d s l. (y.references d s).1 ∙ u.references d s l },
+)
+  where
+    word_ : (d s i : ℕ) → n ≤ d → (back.words d s i ≡ absent) × (rest.words d s i ≡ absent)
+    word_ d s i l = early_absent (back.words d s i) (rest.words d s i) (given.words d s i) (y.words d s i) (u.words d s i l)

@@ -6,7 +6,8 @@ use Rattle.std.specs.Prelude.{◌⊎◌, Bool, true, false, ◌==◌, ◌&&◌, 
 use Rattle.cm_syntax.specs.declared.stmt.Slot.{Slot}
 use Rattle.cm_syntax.specs.declared.stmt.Slot.TheVariants as slot
 use Rattle.cm_syntax.specs.declared.stmt.Program.{Program}
-use Rattle.cm_syntax.specs.Stack.{Cell, absent, unset, present, Reference, Stack, Argument, word, slice, write_word, clear_words, write_reference, word_parameter, slice_parameter, push_frame, pop_frame, is_held, IsUnder}
+use Rattle.cm_syntax.specs.Cell.{Cell, absent, unset, present, may_write, shared}
+use Rattle.cm_syntax.specs.Stack.{Reference, Stack, Argument, word, slice, write_word, clear_words, write_reference, word_parameter, slice_parameter, push_frame, pop_frame, IsUnder}
 use Rattle.cm_syntax.specs.Rest.{Item, Hand, idle, holds, returned, entering, framing, end, Control, control}
 use Rattle.cm_syntax.specs.Step.{slots_in}
 use Rattle.cm_meaning.specs.Typing.{numbers_below}
@@ -16,8 +17,8 @@ use Rattle.cm_meaning.proofs.GrowthLaw.{KeepsWords, Grows, set_moves, reference_
 
 -- every cell of the live frames is held, nothing beyond is, and a reference is to set words of its frame or one before
 pub record Frames (program : Program) (calls : List ℕ) (h : Stack) : Type 0 where
-  pub words : (d s i : ℕ) → d < length calls → is_held (h.words d s i) ≡ true
-  pub references : (d s : ℕ) → d < length calls → is_held (h.references d s) ≡ true
+  pub words : (d s i : ℕ) → d < length calls → may_write (h.words d s i) ≡ true
+  pub references : (d s : ℕ) → d < length calls → may_write (h.references d s) ≡ true
   pub below : IsUnder (length calls) h
   pub refers : (d s : ℕ) (r : Reference) → h.references d s ≡ present r → (r.depth ≤ d) × IsReference program h calls r
 
@@ -26,10 +27,11 @@ pub record Wider (n : ℕ) (h g : Stack) : Type 0 where
   pub words : (d s i : ℕ) → (g.words d s i ≡ h.words d s i) ⊎ ((d < n) × IsPresent (g.words d s i))
   pub references : (d s : ℕ) → h.references d s ≡ g.references d s
 
-pub present_held : {A : Type 0} (c : Cell A) → IsPresent c → is_held c ≡ true
+pub present_held : {A : Type 0} (c : Cell A) → IsPresent c → may_write c ≡ true
 present_held absent p = absurd p
 present_held unset p = absurd p
 present_held (present v) p = refl
+present_held (shared q v) p = absurd p
 
 present_if : {A : Type 0} (q : Bool) (c : Cell A) (v : A) → IsPresent c → IsPresent (if q then present v else c)
 present_if true c v p = tt
@@ -39,6 +41,7 @@ absent_free : {A : Type 0} (c : Cell A) → c ≡ absent → IsPresent c → ⊥
 absent_free absent e p = p
 absent_free unset e p = p
 absent_free (present v) e p = cc e
+absent_free (shared q v) e p = p
 
 is_present : {A : Type 0} (c : Cell A) (v : A) → c ≡ present v → IsPresent c
 is_present c v e = subst IsPresent (sym e) tt
@@ -76,8 +79,8 @@ wider_grows n m h g w = record {
 
 pub wider_frames : (program : Program) (calls : List ℕ) (h g : Stack) → Wider (length calls) h g → Frames program calls h → Frames program calls g
 wider_frames program calls h g w f = record {
-  words = λ d s i l. elim (w.words d s i) [ inl e ↦ ap is_held e ∙ f.words d s i l | inr q ↦ present_held (g.words d s i) q.1 ];
-  references = λ d s l. ap is_held (sym (w.references d s)) ∙ f.references d s l;
+  words = λ d s i l. elim (w.words d s i) [ inl e ↦ ap may_write e ∙ f.words d s i l | inr q ↦ present_held (g.words d s i) q.1 ];
+  references = λ d s l. ap may_write (sym (w.references d s)) ∙ f.references d s l;
   below = record {
     words = λ d s i l. elim (w.words d s i) [ inl e ↦ e ∙ f.below.words d s i l | inr q ↦ absurd (far d (length calls) q.0 l) ];
     references = λ d s l. sym (w.references d s) ∙ f.below.references d s l;
@@ -178,7 +181,7 @@ reference_frames program calls h d s r l m i f = record {
   refers = λ e t x k. let y = written_reference program calls h d s r f m i e t (e == d && t == s) x (at e t) k in (y.0, reference_moves program h (write_reference h d s r) calls x (λ a b c j p. p) y.1);
 }
   where
-    held : (q : Bool) (e t : ℕ) → e < length calls → is_held (if q then present r else h.references e t) ≡ true
+    held : (q : Bool) (e t : ℕ) → e < length calls → may_write (if q then present r else h.references e t) ≡ true
     held true e t k = refl
     held false e t k = f.references e t k
 
@@ -338,21 +341,21 @@ module _ (program : Program) (h : Stack) (calls : List ℕ) where
       by true later e = subst (IsReference program h calls) (same e) (fits (slice_get parameters (length ws)) f.0)
       by false later e = later e
 
-held_if : {A : Type 0} (q : Bool) (c : Cell A) (v : A) → is_held c ≡ true → is_held (if q then present v else c) ≡ true
+held_if : {A : Type 0} (q : Bool) (c : Cell A) (v : A) → may_write c ≡ true → may_write (if q then present v else c) ≡ true
 held_if true c v e = refl
 held_if false c v e = e
 
-word_held : (ws : List Argument) (s : ℕ) → is_held (word_parameter ws s) ≡ true
+word_held : (ws : List Argument) (s : ℕ) → may_write (word_parameter ws s) ≡ true
 word_held [] s = refl
 word_held (word v ∷ ws) s = held_if (s == length ws) (word_parameter ws s) v (word_held ws s)
 word_held (slice r ∷ ws) s = word_held ws s
 
-slice_held : (ws : List Argument) (s : ℕ) → is_held (slice_parameter ws s) ≡ true
+slice_held : (ws : List Argument) (s : ℕ) → may_write (slice_parameter ws s) ≡ true
 slice_held [] s = refl
 slice_held (slice r ∷ ws) s = held_if (s == length ws) (slice_parameter ws s) r (slice_held ws s)
 slice_held (word v ∷ ws) s = slice_held ws s
 
-first_held : (q : Bool) (ws : List Argument) (s : ℕ) → is_held (if q then word_parameter ws s else unset) ≡ true
+first_held : (q : Bool) (ws : List Argument) (s : ℕ) → may_write (if q then word_parameter ws s else unset) ≡ true
 first_held true ws s = word_held ws s
 first_held false ws s = refl
 

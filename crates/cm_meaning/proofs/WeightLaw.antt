@@ -18,9 +18,11 @@ use Rattle.cm_syntax.specs.declared.stmt.Program.{Program}
 use Rattle.cm_syntax.specs.Shape.{Joined, Prefixed, Element, InputAt, IfAlone, IfElse, WhileLoop, ForLoop}
 use Rattle.cm_syntax.specs.Label.{silent, ticks, prints, spawns, syncs, traps, ends, stuck}
 use Rattle.cm_syntax.specs.Operator.{is_zero, natural, binary_value, divides, unary_value}
-use Rattle.cm_syntax.specs.Stack.{Cell, absent, unset, present, Reference, Stack, Destination, Argument, are_held}
+use Rattle.cm_syntax.specs.Cell.{Cell}
+use Rattle.cm_syntax.specs.Stack.{Reference, Stack, Destination, Argument, may_write_all}
 use Rattle.cm_syntax.specs.Rest.{Purpose, called, spawned, Item, evaluate, right, apply, prefix, both, either, truth, element, read, arguments, pass, take_back, discard, deliver, perform, sequence, body, declare, assign, update, locate, store, branch, turn, test, part, tick, show, exit, fall, join, end, Hand, idle, holds, returned, entering, framing, Control}
-use Rattle.cm_syntax.specs.Step.{Move, top, inside, rest_at_join, when_present, when_held, when_value, when_result, when_some, write_step, leave, is_index, is_split, slice_in, call_bytes_in, destination_slot, invoke, enter_call, take_value, drop_value, deliver_value, declare_item, do_other, fall_off, slot_at, running_function, when_slice, push_call, end_call, give_input, evaluate_step, statement_step, item_step, hand_step, step}
+use Rattle.cm_syntax.specs.Step.{Move, top, inside, rest_at_join, when_readable, when_writable, when_value, when_result, when_some, write_step, leave, is_index, is_split, slice_in, call_bytes_in, destination_slot, invoke, enter_call, take_value, drop_value, deliver_value, declare_item, do_other, fall_off, slot_at, running_function, when_slice, push_call, end_call, give_input, evaluate_step, statement_step, item_step, hand_step, step}
+use Rattle.cm_syntax.proofs.AccessLaw.{reading, writing}
 use Rattle.cm_meaning.specs.Weight.{expression_weight, arguments_weight, optional_weight, declare_weight, statement_weight, sequence_weight, body_weight, other_weight, rest_weight, join_weight, function_weight, weight_by, weight}
 use Rattle.cm_meaning.specs.Law.{LowersWeight}
 use Rattle.cm_meaning.proofs.EndLaw.{Lowers}
@@ -54,15 +56,11 @@ module _ (program : Program) (page : ℕ) (input : List ℤ) where
   light (entering f ws) k p = absurd p
   light (framing f ws) k p = absurd p
 
-  falls_present : {A : Type 0} (c : Cell A) (f : A → Move) (n : ℕ) → ((v : A) → Falls (f v) n) → Falls (when_present c f) n
-  falls_present (present v) f n h = h v
-  falls_present absent f n h = tt
-  falls_present unset f n h = tt
+  falls_present : {A : Type 0} (c : Cell A) (f : A → Move) (n : ℕ) → ((v : A) → Falls (f v) n) → Falls (when_readable c f) n
+  falls_present c f n h = reading (λ m. Falls m n) tt c f (λ v e. h v)
 
-  falls_held : {A : Type 0} (c : Cell A) (f : Move) (n : ℕ) → Falls f n → Falls (when_held c f) n
-  falls_held absent f n h = tt
-  falls_held unset f n h = h
-  falls_held (present v) f n h = h
+  falls_held : {A : Type 0} (c : Cell A) (f : Move) (n : ℕ) → Falls f n → Falls (when_writable c f) n
+  falls_held c f n h = writing (λ m. Falls m n) tt c f (λ e. h)
 
   falls_value : (c : Hand) (f : ℤ → Move) (n : ℕ) → ((v : ℤ) → Falls (f v) n) → Falls (when_value c f) n
   falls_value (holds v) f n h = h v
@@ -91,7 +89,7 @@ module _ (program : Program) (page : ℕ) (input : List ℤ) where
 
   falls_write : (c : Control) (h : Stack) (d s i : ℕ) (p : Option Op) (v : ℤ) (k : List Item) (n : ℕ) → rest_weight k < n → Falls (write_step c h d s i p v k) n
   falls_write c h d s i None v k n l = falls_held (h.words d s i) _ n l
-  falls_write c h d s i (Some p) v k n l = falls_present (h.words d s i) _ n (λ old. falls_result p (binary_value p old v) _ n (λ w. l))
+  falls_write c h d s i (Some p) v k n l = falls_held (h.words d s i) _ n (falls_present (h.words d s i) _ n (λ old. falls_result p (binary_value p old v) _ n (λ w. l)))
 
   falls_call : (c : Control) (h : Stack) (u : Purpose) (f : ℕ) (ws : List Argument) (k : List Item) → Falls (enter_call c h u f ws k) (1 + rest_weight k)
   falls_call c h called f ws k = omega arith
@@ -138,7 +136,7 @@ module _ (program : Program) (page : ℕ) (input : List ℤ) where
   falls_declare : (c : Control) (h : Stack) (x : ℕ) (z : Slot) (e : Option (Expr ℕ)) (more : List (items.Item ℕ)) (k : List Item) → Falls (declare_item c h x z e more k) (optional_weight e + (declare_weight more + 2) + rest_weight k)
   falls_declare c h x slot.Scalar None more k = falls_write c h (top c.calls) x 0 None (pos 0) (declare more ∷ k) _ (omega arith)
   falls_declare c h x slot.Scalar (Some e) more k = omega arith
-  falls_declare c h x (slot.Array n) e more k = let l : declare_weight more + rest_weight k < optional_weight e + (declare_weight more + 2) + rest_weight k = omega arith in falls_if (are_held (h.words (top c.calls) x) n) _ _ _ l tt
+  falls_declare c h x (slot.Array n) e more k = let l : declare_weight more + rest_weight k < optional_weight e + (declare_weight more + 2) + rest_weight k = omega arith in falls_if (may_write_all (h.words (top c.calls) x) n) _ _ _ l tt
   falls_declare c h x slot.Slice e more k = tt
 
   falls_end : (c : Control) (h : Stack) (calls : List ℕ) (k : List Item) (n : ℕ) → rest_weight k < n → Falls (end_call program page input c h calls k) n

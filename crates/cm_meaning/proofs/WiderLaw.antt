@@ -1,7 +1,8 @@
 -- What a run of the elision leaves of the frames below those of its call: each word is as it was or has a value, and each
 -- reference is as it was.
-use Rattle.std.proofs.Common.{◌≡◌, ℕ, ◌+◌, ◌<◌, ◌≤◌, List, [], ◌∷◌, length, Option, None, Some, refl, sym, ◌∙◌, subst, arith, inl, inr}
+use Rattle.std.proofs.Common.{◌≡◌, ℕ, zero, suc, ◌+◌, ◌<◌, ◌≤◌, List, [], ◌∷◌, length, Option, None, Some, refl, sym, ap, ◌∙◌, subst, arith, inl, inr}
 use Rattle.std.proofs.lemmas.Bool.Decides.{eqb_tells}
+use Rattle.cm_meaning.proofs.BesideLaw.{and_true, below, one_place, in_slot}
 use Rattle.std.specs.Prelude.{◌-◌, ◌⊎◌, nat_le, Bool, true, false, ◌==◌, ◌&&◌, if◌then◌else◌, nat_lt, ℤ, pos, ⊤, slice_get}
 use Rattle.cm_syntax.specs.declared.expr.Op.{Op}
 use Rattle.cm_syntax.specs.declared.expr.Op.TheVariants as op
@@ -21,9 +22,11 @@ use Rattle.cm_syntax.specs.Shape.{Joined, Prefixed, Element, InputAt, IfAlone, I
 use Rattle.cm_syntax.specs.Trap as kind
 use Rattle.cm_syntax.specs.Label.{silent, ticks, prints, spawns, syncs, traps, ends, stuck}
 use Rattle.cm_syntax.specs.Operator.{is_zero, natural, binary_value, divides, unary_value}
-use Rattle.cm_syntax.specs.Stack.{Cell, absent, unset, present, Reference, Stack, Destination, Argument, write_word, clear_words, write_parts, are_held, push_frame, pop_frame}
+use Rattle.cm_syntax.specs.Cell.{Cell, present, may_write}
+use Rattle.cm_syntax.specs.Stack.{Reference, Stack, Destination, Argument, write_word, clear_words, write_parts, may_write_all, push_frame, pop_frame}
 use Rattle.cm_syntax.specs.Rest.{Purpose, called, spawned, Item, evaluate, right, apply, prefix, both, either, truth, element, read, arguments, pass, take_back, discard, deliver, perform, sequence, body, declare, assign, update, locate, store, branch, turn, test, part, tick, show, exit, fall, join, end, Hand, idle, holds, returned, entering, framing, Control, control}
-use Rattle.cm_syntax.specs.Step.{Move, top, inside, rest_at_join, when_present, when_held, when_value, when_result, when_some, write_step, leave, is_index, is_split, slice_in, destination_slot, invoke, enter_call, take_value, drop_value, deliver_value, declare_item, do_other, push_call, call_bytes_in, hand_step, fall_off, slot_at, running_function, when_slice, end_call, give_input, evaluate_step, statement_step, item_step, step}
+use Rattle.cm_syntax.specs.Step.{Move, top, to, inside, rest_at_join, when_readable, when_writable, when_value, when_result, when_some, write_step, leave, is_index, is_split, slice_in, destination_slot, invoke, enter_call, take_value, drop_value, deliver_value, declare_item, do_other, push_call, call_bytes_in, hand_step, fall_off, slot_at, running_function, when_slice, end_call, give_input, evaluate_step, statement_step, item_step, step}
+use Rattle.cm_syntax.proofs.AccessLaw.{reading, writing}
 use Rattle.cm_meaning.specs.Elision as elision
 use Rattle.cm_meaning.specs.Elision.{serial}
 use Rattle.cm_meaning.specs.Meaning.{serial_step, Comes}
@@ -32,9 +35,10 @@ use Rattle.cm_meaning.proofs.TypedFramesLaw.{IsPlain}
 use Rattle.cm_meaning.specs.Activation.{base, end_count, FitsHand, IsSettled}
 use Rattle.cm_meaning.specs.TypedState.{IsPresent}
 
--- of two stacks, the words of the frames before this depth are the same, or the second has a value; references are the same
+-- of two stacks, the words of the frames before this depth are the same, or the first might write there and the second has
+-- a value; references are the same
 pub record Wide (n : ℕ) (h g : Stack) : Type 0 where
-  pub words : (d s i : ℕ) → d < n → (g.words d s i ≡ h.words d s i) ⊎ IsPresent (g.words d s i)
+  pub words : (d s i : ℕ) → d < n → (g.words d s i ≡ h.words d s i) ⊎ ((may_write (h.words d s i) ≡ true) × IsPresent (g.words d s i))
   pub references : (d s : ℕ) → d < n → g.references d s ≡ h.references d s
 
 pub wide_same : (n : ℕ) (h : Stack) → Wide n h h
@@ -43,15 +47,23 @@ wide_same n h = record { words = λ d s i l. inl refl; references = λ d s l. re
 pub wide_joined : (n : ℕ) (h g k : Stack) → Wide n h g → Wide n g k → Wide n h k
 wide_joined n h g k a b = record {
   words = λ d s i l. elim (b.words d s i l) [
-    | inl e ↦ elim (a.words d s i l) [ inl f ↦ inl (e ∙ f) | inr p ↦ inr (subst IsPresent (sym e) p) ]
-    | inr p ↦ inr p
+    | inl e ↦ elim (a.words d s i l) [ inl f ↦ inl (e ∙ f) | inr p ↦ inr (p.0, subst IsPresent (sym e) p.1) ]
+    | inr p ↦ elim (a.words d s i l) [ inl f ↦ inr (ap may_write (sym f) ∙ p.0, p.1) | inr q ↦ inr (q.0, p.1) ]
   ];
   references = λ d s l. b.references d s l ∙ a.references d s l;
 }
 
-put_or : (q : Bool) (c : Cell ℤ) (v : ℤ) → ((if q then present v else c) ≡ c) ⊎ IsPresent (if q then present v else c)
-put_or true c v = inr tt
-put_or false c v = inl refl
+put_or : (q : Bool) (c : Cell ℤ) (v : ℤ) → (q ≡ true → may_write c ≡ true) → ((if q then present v else c) ≡ c) ⊎ ((may_write c ≡ true) × IsPresent (if q then present v else c))
+put_or true c v h = inr (h refl, tt)
+put_or false c v h = inl refl
+
+-- each word of those that may all be written may be
+all_writable : (a : ℕ → Cell ℤ) (n : ℕ) → may_write_all a n ≡ true → (i : ℕ) → i < n → may_write (a i) ≡ true
+all_writable a zero h i l = absurd (omega (arith, l))
+all_writable a (suc n) h i l = let both_ = and_true (may_write (a n)) (may_write_all a n) h in elim (eqb_tells i n) [
+  | inl one ↦ ap (λ z. may_write (a z)) one.1 ∙ both_.0
+  | inr ne ↦ all_writable a n both_.1 i (below i n ne.1 l)
+]
 
 apart_of : (d n : ℕ) → d < n → (d == n) ≡ false
 apart_of d n l = elim (eqb_tells d n) [ inl one ↦ absurd (less d n l one.1) | inr ne ↦ ne.0 ]
@@ -86,11 +98,11 @@ module _ (program : Program) (page : ℕ) (input : List ℤ) (n : ℕ) where
     same : Wide n h h
     same = wide_same n h
 
-    written : (d s i : ℕ) (v : ℤ) → Wide n h (write_word h d s i v)
-    written d s i v = record { words = λ e t j l. put_or (e == d && (t == s && j == i)) (h.words e t j) v; references = λ e t l. refl }
+    written : (d s i : ℕ) (v : ℤ) → may_write (h.words d s i) ≡ true → Wide n h (write_word h d s i v)
+    written d s i v m = record { words = λ e t j l. put_or (e == d && (t == s && j == i)) (h.words e t j) v (λ q. let x = one_place e d t s j i q in ap (λ z. may_write (h.words z t j)) x.0 ∙ ap (λ z. may_write (h.words d z j)) x.1 ∙ ap (λ z. may_write (h.words d s z)) x.2 ∙ m); references = λ e t l. refl }
 
-    cleared : (d s m : ℕ) → Wide n h (clear_words h d s m)
-    cleared d s m = record { words = λ e t j l. put_or (e == d && (t == s && nat_lt j m)) (h.words e t j) (pos 0); references = λ e t l. refl }
+    cleared : (d s m : ℕ) → may_write_all (h.words d s) m ≡ true → Wide n h (clear_words h d s m)
+    cleared d s m all = record { words = λ e t j l. put_or (e == d && (t == s && nat_lt j m)) (h.words e t j) (pos 0) (λ q. let x = in_slot e d t s j m q in ap (λ z. may_write (h.words z t j)) x.0 ∙ ap (λ z. may_write (h.words d z j)) x.1 ∙ all_writable (h.words d s) m all j x.2); references = λ e t l. refl }
 
     parted : (a b : ℕ) (r : Reference) (m : ℕ) → Wide n h (write_parts h (top c.calls) a b r m)
     parted a b r m = record {
@@ -99,15 +111,11 @@ module _ (program : Program) (page : ℕ) (input : List ℤ) (n : ℕ) where
     }
 
     module _ (k : List Item) where
-      wide_present : {A : Type 0} (y : Cell A) (f : A → Move) → ((v : A) → Ok (f v)) → Ok (when_present y f)
-      wide_present absent f e = tt
-      wide_present unset f e = tt
-      wide_present (present v) f e = e v
+      wide_present : {A : Type 0} (y : Cell A) (f : A → Move) → ((v : A) → Ok (f v)) → Ok (when_readable y f)
+      wide_present y f e = reading Ok tt y f (λ v q. e v)
 
-      wide_held : {A : Type 0} (y : Cell A) (f : Move) → Ok f → Ok (when_held y f)
-      wide_held absent f e = tt
-      wide_held unset f e = e
-      wide_held (present v) f e = e
+      wide_held : {A : Type 0} (y : Cell A) (f : Move) → (may_write y ≡ true → Ok f) → Ok (when_writable y f)
+      wide_held y f e = writing Ok tt y f e
 
       wide_value : (y : Hand) (f : ℤ → Move) → ((v : ℤ) → Ok (f v)) → Ok (when_value y f)
       wide_value (holds v) f e = e v
@@ -135,13 +143,13 @@ module _ (program : Program) (page : ℕ) (input : List ℤ) (n : ℕ) where
       wide_some None f e = tt
 
       wide_write : (d s i : ℕ) (p : Option Op) (v : ℤ) (r : List Item) → Ok (write_step c h d s i p v r)
-      wide_write d s i None v r = wide_held (h.words d s i) _ (written d s i v)
-      wide_write d s i (Some p) v r = wide_present (h.words d s i) _ (λ old. wide_result p (binary_value p old v) _ (λ w. written d s i w))
+      wide_write d s i None v r = wide_held (h.words d s i) _ (λ m. written d s i v m)
+      wide_write d s i (Some p) v r = wide_held (h.words d s i) _ (λ m. wide_present (h.words d s i) _ (λ old. wide_result p (binary_value p old v) _ (λ w. written d s i w m)))
 
       wide_call : (u : Purpose) (f : ℕ) (ws : List Argument) → Ok (enter_call c h u f ws k)
       wide_call called f ws = same
       wide_call (spawned None) f ws = tt
-      wide_call (spawned (Some y)) f ws = wide_held (h.words (top c.calls) y 0) _ (tt)
+      wide_call (spawned (Some y)) f ws = wide_held (h.words (top c.calls) y 0) _ (λ m. tt)
 
       wide_input : (v : Option ℤ) → Ok (give_input program page input c h v k)
       wide_input None = tt
@@ -183,7 +191,11 @@ module _ (program : Program) (page : ℕ) (input : List ℤ) (n : ℕ) where
       wide_declare : (y : ℕ) (s : Slot) (e : Option (Expr ℕ)) (more : List (items.Item ℕ)) → Ok (declare_item c h y s e more k)
       wide_declare y slot.Scalar None more = wide_write (top c.calls) y 0 None (pos 0) (declare more ∷ k)
       wide_declare y slot.Scalar (Some e) more = same
-      wide_declare y (slot.Array n) e more = wide_if (are_held (h.words (top c.calls) y) n) _ _ (cleared (top c.calls) y n) tt
+      wide_declare y (slot.Array n) e more = by (may_write_all (h.words (top c.calls) y) n) refl
+        where
+          by : (q : Bool) → may_write_all (h.words (top c.calls) y) n ≡ q → Ok (if q then silent (to c (declare more ∷ k)) (clear_words h (top c.calls) y n) else stuck)
+          by true a = cleared (top c.calls) y n a
+          by false a = tt
       wide_declare y slot.Slice e more = tt
 
       wide_evaluate : (e : Expr ℕ) → Ok (evaluate_step program page input c h e k)
@@ -256,8 +268,8 @@ module _ (program : Program) (page : ℕ) (input : List ℤ) (n : ℕ) where
     wide_item (turn None s p) k = same
     wide_item (test t s p) k = wide_value k c.hand _ (λ v. wide_if k (is_zero v) _ _ (same) (same))
     wide_item (part s a b row) k = wide_value k c.hand _ (λ v. wide_slice k s _ (λ y. wide_if k (is_split v y.length) _ _
-        (wide_held k (h.references (top c.calls) a) _ (wide_held k (h.references (top c.calls) b) _
-        (parted a b y (natural v)))) tt))
+        (wide_held k (h.references (top c.calls) a) _ (λ q. wide_held k (h.references (top c.calls) b) _ (λ r.
+        parted a b y (natural v)))) tt))
     wide_item tick k = same
     wide_item show k = wide_value k c.hand _ (λ v. same)
     wide_item exit k = wide_leave k k

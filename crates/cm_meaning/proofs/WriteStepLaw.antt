@@ -10,9 +10,10 @@ use Rattle.cm_syntax.specs.declared.stmt.Stmt.{Stmt}
 use Rattle.cm_syntax.specs.Label.{silent, traps, stuck}
 use Rattle.cm_syntax.specs.Trap as kind
 use Rattle.cm_syntax.specs.Operator.{natural}
-use Rattle.cm_syntax.specs.Stack.{Cell, absent, unset, present, Reference, Stack, is_held, are_held, clear_words, write_parts}
+use Rattle.cm_syntax.specs.Cell.{Cell, present, may_write}
+use Rattle.cm_syntax.specs.Stack.{Reference, Stack, may_write_all, clear_words, write_parts}
 use Rattle.cm_syntax.specs.Rest as rest
-use Rattle.cm_syntax.specs.Step.{Move, top, to, when_held, write_step, is_split, slice_in, declare_item, item_step}
+use Rattle.cm_syntax.specs.Step.{Move, top, to, when_writable, write_step, is_split, slice_in, declare_item, item_step}
 use Rattle.cm_meaning.specs.declared.evaluator.Evaluator.{Evaluator}
 use Rattle.cm_meaning.specs.declared.frames.Frames.{Frames}
 use Rattle.cm_meaning.specs.declared.reference.Reference as declared
@@ -28,6 +29,7 @@ use Rattle.cm_meaning.specs.Layout.{reference_of, calls_in, frames_words, slot_i
 use Rattle.cm_meaning.specs.Measure.{cilk_frames}
 use Rattle.cm_meaning.specs.Doing.{items_behind, control_before, IsOpen, Writes}
 use Rattle.cm_meaning.specs.Evaluator.{statements_row, items_of, hand_count, passed_in, work_count, control_with, IsKept, IsTypedAt, IsReady, Leads, Does, Puts}
+use Rattle.cm_syntax.proofs.AccessLaw.{writes_on}
 use Rattle.cm_meaning.proofs.StatementStepLaw.{of_ok}
 use Rattle.cm_meaning.proofs.EvaluatorLaw.{control_by, control_at, behind_work, work_move, elided, serial_move, kept_behind, same_run, control_behind, does_by, put_does, Inside, ready_inside, RowAt, row_at, row_word, row_word_value, row_few, scalar_value, slot_is, slot_at_is, top_is, top_lives}
 
@@ -146,7 +148,7 @@ writes_does old new work y o d s i op v ready is none none_too writes moves = re
 
 -- a word that is present may be written and updated
 open_present : (op : Option Op) (cell : Cell ℤ) (v : ℤ) → cell ≡ present v → IsOpen op cell
-open_present None cell v is = ap is_held is
+open_present None cell v is = ap may_write is
 open_present (Some o) cell v is = subst IsPresent (sym is) tt
 
 -- the value at hand updates a scalar
@@ -211,21 +213,15 @@ module _ (old : Evaluator) (x i : ℕ) (op : Option Op) (v : ℤ) (row : declare
 
 -- ---- parts and arrays
 
--- what is written is held, as every cell of a live frame
-when_held_is : {A : Type 0} (cell : Cell A) (move : Move) → is_held cell ≡ true → when_held cell move ≡ move
-when_held_is absent move held = absurd (cc held)
-when_held_is unset move held = refl
-when_held_is (present v) move held = refl
-
 -- a place where a row may be split is a natural number
 pub split_natural : (v w : ℤ) (n : ℕ) → w ≡ v → is_split v n ≡ true → unsigned_abs w ≡ natural v
 split_natural (pos m) w n same fits = ap unsigned_abs same
 split_natural (negsuc m) w n same fits = absurd (cc fits)
 
--- and so are all words of an array
-all_held : (words : ℕ → Cell ℤ) (n : ℕ) → ((i : ℕ) → is_held (words i) ≡ true) → are_held words n ≡ true
+-- all words of an array may be written where each may
+all_held : (words : ℕ → Cell ℤ) (n : ℕ) → ((i : ℕ) → may_write (words i) ≡ true) → may_write_all words n ≡ true
 all_held words zero held = refl
-all_held words (suc n) held = ap (λ b. b && are_held words n) (held n) ∙ all_held words n held
+all_held words (suc n) held = ap (λ b. b && may_write_all words n) (held n) ∙ all_held words n held
 
 -- where a row is split is at hand
 module _ (old : Evaluator) (x left right : ℕ) (row : Bor (List (Stmt ℕ))) (v : ℤ) (whole : declared.Reference) (ready : IsReady old (works.Part x left right row))
@@ -259,12 +255,12 @@ module _ (old : Evaluator) (x left right : ℕ) (row : Bor (List (Stmt ℕ))) (v
       let p = part_at h at in
       let live = top_lives old ready.0 h _ _ p.inside in
       let end : Move = silent (to c (rest.sequence (statements_row row.now).1 ∷ k)) (write_parts h d left right (reference_of whole) (natural v)) in
-      let goes : Reference → Move = λ r. if is_split v r.length then when_held (h.references d left) (when_held (h.references d right)
+      let goes : Reference → Move = λ r. if is_split v r.length then when_writable (h.references d left) (when_writable (h.references d right)
       (silent (to c (rest.sequence (statements_row row.now).1 ∷ k)) (write_parts h d left right r (natural v)))) else traps kind.Index in (
         write_parts h d left right (reference_of whole) (natural v),
         ap (λ kind. slice_in calls h kind x goes) (slot_at_is old ready.0 h _ _ p.inside x) ∙ p.at_row.reads goes
-            ∙ ap (λ b. if b then when_held (h.references d left) (when_held (h.references d right) end) else traps kind.Index) fits
-            ∙ when_held_is (h.references d left) _ (at.0.references d left live) ∙ when_held_is (h.references d right) end (at.0.references d right live),
+            ∙ ap (λ b. if b then when_writable (h.references d left) (when_writable (h.references d right) end) else traps kind.Index) fits
+            ∙ writes_on (h.references d left) _ (at.0.references d left live) ∙ writes_on (h.references d right) end (at.0.references d right live),
         subst (λ n. Shows frames (write_parts h d left right (reference_of whole) n)) same (shows h at.1),
       ))
 

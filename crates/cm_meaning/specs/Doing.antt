@@ -6,7 +6,8 @@ use Rattle.cm_syntax.specs.declared.expr.Call.{Call}
 use Rattle.cm_syntax.specs.declared.expr.Op.{Op}
 use Rattle.cm_syntax.specs.Operator.{binary_value}
 use Rattle.cm_syntax.specs.Rest as rest
-use Rattle.cm_syntax.specs.Stack.{Cell, present, Stack, is_held}
+use Rattle.cm_syntax.specs.Cell.{Cell, present, may_write}
+use Rattle.cm_syntax.specs.Stack.{Stack}
 use Rattle.cm_syntax.specs.Step.{write_step}
 use Rattle.cm_meaning.specs.declared.evaluator.Evaluator.{Evaluator}
 use Rattle.cm_meaning.specs.declared.work.Outcome.{Outcome}
@@ -36,7 +37,7 @@ IsSteady ev = IsKept ev × IsPlain ev.hand
 
 -- a word may be written, or updated
 abbrev pub IsOpen : Option Op → Cell ℤ → Type 0
-IsOpen None cell = is_held cell ≡ true
+IsOpen None cell = may_write cell ≡ true
 IsOpen (Some o) cell = IsPresent cell
 
 -- what an update writes; None where it divides by 0

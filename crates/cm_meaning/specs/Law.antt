@@ -1,12 +1,17 @@
 -- What the laws of steps say.
-use Rattle.std.specs.Prelude.{◌≡◌, ◌<◌, ⊤, Option, None, Some, ℤ, ℕ}
+use Rattle.std.specs.Prelude.{◌≡◌, ◌<◌, Bool, true, false, ⊤, Option, None, Some, List, ◌∷◌, ℤ, ℕ}
+use Rattle.cm_syntax.specs.declared.expr.Call.{end_of-Arg}
 use Rattle.cm_syntax.specs.declared.stmt.Program.{Program}
 use Rattle.cm_syntax.specs.Label.{silent, ticks, prints, spawns, syncs, traps, ends, stuck}
-use Rattle.cm_syntax.specs.Stack.{absent, Stack, Destination, StackSum, IsUnder}
-use Rattle.cm_syntax.specs.Rest.{Control, returned}
+use Rattle.cm_syntax.specs.Cell.{unlent, to_read, is_held, may_write}
+use Rattle.cm_syntax.specs.Stack.{Stack, Destination, lent_word, lent_reference, StackSum, SharesBack, IsUnder}
+use Rattle.cm_syntax.specs.Rest.{spawned, Item, arguments, deliver, declare, assign, update, store, part, Control, returned}
 use Rattle.cm_syntax.specs.Step.{Move, frame_count, inside, deliver_value}
 use Rattle.cm_meaning.specs.Weight.{weight}
 use Rattle.cm_meaning.specs.Activation.{IsSettled}
+use Rattle.cm_meaning.specs.End.{Done}
+use Rattle.cm_meaning.specs.Meaning.{Ask, Note}
+use Rattle.cm_meaning.specs.Piece.{child, told, HasNote}
 
 -- A step is another one that is done beside some words, which it leaves as they are. They may not be of a frame that
 -- the step begins or ends.
@@ -19,6 +24,25 @@ IsBeside b (syncs c) y = y ≡ syncs c
 IsBeside b (traps k) y = y ≡ traps k
 IsBeside b (ends v) y = y ≡ ends v
 IsBeside b stuck y = ⊤
+
+-- the next item is one that puts something into a word or a reference, or lends a word to be written
+abbrev pub writes_next : List Item → Bool
+writes_next (arguments (spawned (Some x)) f ws end_of-Arg ∷ k) = true
+writes_next (deliver x ∷ k) = true
+writes_next (declare row ∷ k) = true
+writes_next (assign x ∷ k) = true
+writes_next (update x o ∷ k) = true
+writes_next (store a i o ∷ k) = true
+writes_next (part a l r row ∷ k) = true
+writes_next _ = false
+
+-- A part has what a step needs of the whole: each word and reference without which the step is stuck is held in the part;
+-- and where the step writes, each of which a share isn't enough for it may be written there.
+pub record HasNeeded (writes : Bool) (does : Stack → Move) (part whole : Stack) : Type 0 where
+  pub words : (d s i : ℕ) → does (lent_word whole unlent d s i) ≡ stuck → is_held (part.words d s i) ≡ true
+  pub words_written : writes ≡ true → (d s i : ℕ) → does (lent_word whole to_read d s i) ≡ stuck → may_write (part.words d s i) ≡ true
+  pub references : (d s : ℕ) → does (lent_reference whole unlent d s) ≡ stuck → is_held (part.references d s) ≡ true
+  pub references_written : writes ≡ true → (d s : ℕ) → does (lent_reference whole to_read d s) ≡ stuck → may_write (part.references d s) ≡ true
 
 -- A call at its end goes on inside its caller: the value that came back is delivered.
 abbrev pub arrival : Destination → (continuation at_end : Control) → Stack → Option ℤ → Move
@@ -54,7 +78,25 @@ KeepsSettled (ticks t g) = IsSettled t g
 KeepsSettled (prints v t g) = IsSettled t g
 KeepsSettled _ = ⊤
 
--- the destination is a word that is held, in one of so many frames
+-- the destination is a word of which the whole is held, in one of so many frames
 abbrev pub HoldsDestination : Destination → (frames : ℕ) → Stack → Type 0
 HoldsDestination None n h = ⊤
-HoldsDestination (Some x) n h = (x.depth < n) × (h.words x.depth x.slot 0 ≡ absent → ⊥)
+HoldsDestination (Some x) n h = (x.depth < n) × (may_write (h.words x.depth x.slot 0) ≡ true)
+
+-- One child of a log, which is Done and not joined, gave shares back: they are in what is held now, and its answer has what is
+-- left of what it gave.
+pub record ComesFromOne (log later : List Note) (h g : Stack) : Type 0 where
+  pub depth : ℕ
+  pub own : ℕ
+  pub destination : Destination
+  pub ask : Ask
+  pub out : List ℤ
+  pub value : Option ℤ
+  pub used : ℕ
+  pub given : Stack
+  pub back : Stack
+  pub rest : Stack
+  pub before : HasNote Control Stack Destination log (child depth own destination false ask (told (Done out value used) given))
+  pub after : HasNote Control Stack Destination later (child depth own destination false ask (told (Done out value used) rest))
+  pub shares : SharesBack back rest given
+  pub joined : StackSum h back g

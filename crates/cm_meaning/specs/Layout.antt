@@ -8,6 +8,7 @@ use Rattle.cm_syntax.specs.declared.stmt.Program.{Program}
 use Rattle.cm_syntax.specs.Fault.{parameter_slots}
 use Rattle.cm_syntax.specs.Frame.{slot_words, slots_words, frame_words}
 use Rattle.cm_syntax.specs.Limit.{max_frame_words}
+use Rattle.cm_syntax.specs.Cell.{present}
 use Rattle.cm_syntax.specs.Stack as stack
 use Rattle.cm_syntax.specs.Step.{top, scalar_slice}
 use Rattle.cm_meaning.specs.TypedState.{slots_at, row_words}
@@ -119,10 +120,10 @@ slot_in frames x = slice_get (slots_at (program_in frames) (calls_in frames) (to
 
 -- What is present in the stack is what is kept. Nothing is said of words and references that are unset.
 pub record Shows (frames : Frames) (h : stack.Stack) : Type 0 where
-  pub words : (depth x index : ℕ) (v : ℤ) → IsWordAt frames depth x index → h.words depth x index ≡ stack.present v
+  pub words : (depth x index : ℕ) (v : ℤ) → IsWordAt frames depth x index → h.words depth x index ≡ present v
       → slice_get frames.words.items (address (program_in frames) (calls_in frames) depth x index) ≡ Some v
   pub references : (depth x : ℕ) (r : stack.Reference) → depth < length (calls_in frames)
-      → slice_get (slots_at (program_in frames) (calls_in frames) depth) x ≡ Some slot.Slice → h.references depth x ≡ stack.present r
+      → slice_get (slots_at (program_in frames) (calls_in frames) depth) x ≡ Some slot.Slice → h.references depth x ≡ present r
       → slice_get (map reference_of frames.references.items) (address (program_in frames) (calls_in frames) depth x 0) ≡ Some r
 
 -- the frames show a stack behind what was done to it
@@ -152,7 +153,7 @@ abbrev pub IsRowOf : stack.Stack → (calls : List ℕ) → (x : ℕ) → Option
 IsRowOf h calls x None r = ⊥
 IsRowOf h calls x (Some slot.Scalar) r = r ≡ scalar_slice (top calls) x
 IsRowOf h calls x (Some (slot.Array words)) r = r ≡ record { depth = top calls; slot = x; start = 0; length = words }
-IsRowOf h calls x (Some slot.Slice) r = (s : stack.Reference) → h.references (top calls) x ≡ stack.present s → r ≡ s
+IsRowOf h calls x (Some slot.Slice) r = (s : stack.Reference) → h.references (top calls) x ≡ present s → r ≡ s
 
 -- the arguments in their order are of the kinds of these parameters
 abbrev pub AreOfKinds : List argument.Argument → List Slot → Type 0

@@ -7,6 +7,7 @@ pub mod Weight
 pub mod Activation
 pub mod Law
 pub mod Row
+pub mod ShareRow
 pub mod Typing
 pub mod TypedState
 pub mod Visible

@@ -2,7 +2,8 @@
 use Rattle.std.specs.Prelude.{◌≡◌, ℕ, ◌*◌, ℤ, List}
 use Rattle.cm_syntax.specs.declared.stmt.Program.{Program}
 use Rattle.cm_syntax.specs.Label.{stuck}
-use Rattle.cm_syntax.specs.Stack.{Stack, Destination, StackSum, settle, is_held, empty_stack}
+use Rattle.cm_syntax.specs.Cell.{ComesBack}
+use Rattle.cm_syntax.specs.Stack.{Stack, Destination, StackSum, SharesBack, settle, empty_stack}
 use Rattle.cm_syntax.specs.Rest.{Control}
 use Rattle.cm_syntax.specs.Step.{Move, step, start_of, depth, inside}
 use Rattle.cm_meaning.specs.End.{End}
@@ -64,19 +65,23 @@ main_ask program limits = record { start = limits.ticks; call = first_control pr
 module _ (program : Program) (page : ℕ) (input : List ℤ) where
   -- from a piece the rules lead to this end and these words
   abbrev pub Fork : Piece → End → Stack → Type 0
-  Fork = pieces.Fork Control Stack Destination StackSum settle depth (step program page input)
+  Fork = pieces.Fork Control Stack Destination StackSum SharesBack settle depth (step program page input)
 
   -- one rule
   abbrev pub Goes : Piece → Piece → Type 0
-  Goes = pieces.Goes Control Stack Destination StackSum settle depth (step program page input)
+  Goes = pieces.Goes Control Stack Destination StackSum SharesBack settle depth (step program page input)
+
+  -- a share comes back early: from an answer of the log to what is held
+  abbrev pub GivesBack : List Note → Stack → List Note → Stack → Type 0
+  GivesBack = pieces.GivesBack Control Stack Destination StackSum SharesBack settle depth (step program page input)
 
   -- the rules lead from the first piece to this one
   abbrev pub Reached : (first : Piece) → Piece → Type 0
-  Reached = pieces.Reached Control Stack Destination StackSum settle depth (step program page input)
+  Reached = pieces.Reached Control Stack Destination StackSum SharesBack settle depth (step program page input)
 
   -- how a piece comes to its own end
   abbrev pub Stops : (start own : ℕ) → Control → Stack → List Note → pieces.Own → Type 0
-  Stops = pieces.Stops Control Stack Destination StackSum settle depth (step program page input)
+  Stops = pieces.Stops Control Stack Destination StackSum SharesBack settle depth (step program page input)
 
   -- no piece that is reached from this one is in a state that no rule has
   abbrev pub IsNeverStuck : Piece → Type 0
@@ -90,10 +95,10 @@ AllDone = pieces.AllDone Control Stack Destination
 abbrev pub ForkEnd : Program → (input : List ℤ) → Limits → End → Type 0
 ForkEnd program input limits e = (w : Stack) × Fork program limits.page input (begun (main_ask program limits)) e w
 
--- two stacks hold the same words and references, whatever is in them
+-- two stacks hold the same of each word and reference, and what isn't whole is the same; whatever else is in them
 pub record HoldSameCells (a b : Stack) : Type 0 where
-  pub words : (d s i : ℕ) → is_held (a.words d s i) ≡ is_held (b.words d s i)
-  pub references : (d s : ℕ) → is_held (a.references d s) ≡ is_held (b.references d s)
+  pub words : (d s i : ℕ) → ComesBack (a.words d s i) (b.words d s i)
+  pub references : (d s : ℕ) → ComesBack (a.references d s) (b.references d s)
 
 -- An end with words answers an ask of a program's run: the ask is one of a reached child, the rules allow it the end
 -- and these words, and the words that come back are those that were lent, whatever is in them.

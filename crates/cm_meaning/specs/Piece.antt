@@ -147,9 +147,10 @@ module _ (Control Stack Destination : Type 0) where
 
 -- ---- rules
 
--- `Joins` says when two stacks are joined to a third; `settle` puts a child's value into its destination; `depth` is
+-- `Joins` says when two stacks are joined to a third; `TakesOut` when shares of words that were lent for reading, and
+-- nothing else, are taken out of what a child gives back; `settle` puts a child's value into its destination; `depth` is
 -- that of the running function's frame.
-module _ (Control Stack Destination : Type 0) (Joins : Stack → Stack → Stack → Type 0) (settle : Destination → Option ℤ → Stack → Stack)
+module _ (Control Stack Destination : Type 0) (Joins : Stack → Stack → Stack → Type 0) (TakesOut : (back rest given : Stack) → Type 0) (settle : Destination → Option ℤ → Stack → Stack)
     (depth : Control → ℕ) (step : Control → Stack → Step Control Stack Destination) where
   abbrev pub SomePiece : Type 0
   SomePiece = Piece Control Stack Destination
@@ -192,6 +193,14 @@ module _ (Control Stack Destination : Type 0) (Joins : Stack → Stack → Stack
         → step c h ≡ syncs t → Collects (depth c) log h more g → CountsOf more m → start < own + m → Stops start own c h log runs_out
     by_child : Fallen Control Stack Destination log → Stops start own c h log runs_out
 
+  -- A share comes back before the sync: of a child that is Done and not joined, the piece gets shares of words that the
+  -- child got for reading, and the answer has them no more, so none comes back twice.
+  pub data GivesBack : Log → Stack → Log → Stack → Type 0 where
+    this : {d o m : ℕ} {x : Destination} {q : SomeAsk} {out : List ℤ} {v : Option ℤ} {given back rest h g : Stack} {log : Log}
+        → TakesOut back rest given → Joins h back g
+        → GivesBack (child d o x false q (told (Done out v m) given) ∷ log) h (child d o x false q (told (Done out v m) rest) ∷ log) g
+    deeper : {n : Note Control Stack Destination} {log more : Log} {h g : Stack} → GivesBack log h more g → GivesBack (n ∷ log) h (n ∷ more) g
+
   mutual
     -- One rule leads from a piece to the next one. A tick may be taken where own ticks and the counted ones are below
     -- the ticks at the start; a join fits where they are at most these. A child gets what is left.
@@ -213,6 +222,8 @@ module _ (Control Stack Destination : Type 0) (Joins : Stack → Stack → Stack
       -- an answer comes, at any time
       hearing : {start own : ℕ} {c : Control} {h : Stack} {log more : Log}
           → Hears log more → Goes (at_state start own c h log) (at_state start own c h more)
+      returning : {start own : ℕ} {c : Control} {h g : Stack} {log more : Log}
+          → GivesBack log h more g → Goes (at_state start own c h log) (at_state start own c g more)
 
     -- one awaited answer of a log is told: an end that the rules allow to the child
     pub data Hears : Log → Log → Type 0 where

@@ -11,18 +11,20 @@ use Rattle.cm_syntax.specs.declared.stmt.Program.{Program}
 use Rattle.cm_syntax.specs.ParseTree.{is_unary}
 use Rattle.cm_syntax.specs.Fault.{parameter_slots}
 use Rattle.cm_syntax.specs.Label.{silent, ticks, prints, spawns, syncs, traps, ends, stuck}
-use Rattle.cm_syntax.specs.Stack.{Cell, absent, unset, present, Reference, Stack, Destination, Argument, word, slice, is_held, IsUnder}
+use Rattle.cm_syntax.specs.Cell.{Cell, absent, unset, present, shared, may_write}
+use Rattle.cm_syntax.specs.Stack.{Reference, Stack, Destination, Argument, word, slice, IsUnder}
 use Rattle.cm_syntax.specs.Rest.{Purpose, called, spawned, Item, evaluate, right, apply, prefix, both, either, truth, element, read, arguments, pass, take_back, discard, deliver, perform, sequence, body, declare, assign, update, locate, store, branch, turn, test, part, tick, show, exit, fall, join, end, Hand, holds, returned, entering, framing, Control}
 use Rattle.cm_syntax.specs.Step.{Move, slots_in}
 use Rattle.cm_meaning.specs.Typing.{is_arithmetic, IsUpdate, GivesWanted, IsSetScalar, IsSetRow, parameters_in, TypedExpression, TypedArguments, TypedOptional, TypedItems, set_by_items, set_behind, TypedStatement, TypedSequence, TypedBody}
 
 -- ---- what is set
 
--- a value is there
+-- a value is there, and the whole of it is held
 abbrev pub IsPresent : {A : Type 0} → Cell A → Type 0
 IsPresent absent = ⊥
 IsPresent unset = ⊥
 IsPresent (present v) = Unit {0}
+IsPresent (shared p v) = ⊥
 
 -- the words of a variable that slices may refer to; a slice has none of its own
 abbrev pub row_words : Option Slot → ℕ
@@ -61,6 +63,7 @@ abbrev pub reference_length : Cell Reference → ℕ
 reference_length absent = 0
 reference_length unset = 0
 reference_length (present r) = r.length
+reference_length (shared p r) = r.length
 
 -- at the join of a function
 abbrev pub at_join : (gives : Bool) → AtHand
@@ -229,9 +232,9 @@ module _ (program : Program) (h : Stack) where
 
 -- A state of the elision; `gives` tells whether the first call of all gives a value.
 pub record TypedState (program : Program) (gives : Bool) (c : Control) (h : Stack) : Type 0 where
-  -- every word and reference of the live frames is held, and nothing beyond
-  pub words : (d s i : ℕ) → d < length c.calls → is_held (h.words d s i) ≡ true
-  pub references : (d s : ℕ) → d < length c.calls → is_held (h.references d s) ≡ true
+  -- every word and reference of the live frames is held whole, and nothing beyond
+  pub words : (d s i : ℕ) → d < length c.calls → may_write (h.words d s i) ≡ true
+  pub references : (d s : ℕ) → d < length c.calls → may_write (h.references d s) ≡ true
   pub below : IsUnder (length c.calls) h
   -- a reference is to set words of its own frame or of one before it
   pub refers : (d s : ℕ) (r : Reference) → h.references d s ≡ present r → (r.depth ≤ d) × IsReference program h c.calls r

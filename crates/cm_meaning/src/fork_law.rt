@@ -1,16 +1,18 @@
 //! The laws of fork and join: an end is found, no piece of a checked program is stuck, and what reached pieces look
 //! like. The functions do nothing: their contracts are the laws.
 
-ghost use Rattle.std.specs.Prelude.{◌≡◌, ◌≤◌, ◌*◌, [], ℕ, List, ℤ, Option, Bool};
+ghost use Rattle.std.specs.Prelude.{◌≡◌, ◌≤◌, ◌*◌, [], ℕ, List, ℤ, Option, Bool, true, false};
 ghost use Rattle.cm_syntax.specs.declared.stmt.Program.{Program};
 ghost use Rattle.cm_syntax.specs.Fault.{IsSoundProgram};
 ghost use Rattle.cm_syntax.specs.Lending.{IsAccepted};
-ghost use Rattle.cm_syntax.specs.Stack.{Stack, Destination};
+ghost use Rattle.cm_syntax.specs.Cell.{absent, is_held, may_write};
+ghost use Rattle.cm_syntax.specs.Stack.{Stack, Destination, StackSum, SharesBack};
 ghost use Rattle.cm_syntax.specs.Rest.{Control};
 ghost use Rattle.cm_meaning.specs.End.{End, Done};
 ghost use Rattle.cm_meaning.specs.Piece.{Own, Answer, child, HasNote};
 ghost use Rattle.cm_meaning.specs.Activation.{IsSettled};
-ghost use Rattle.cm_meaning.specs.Meaning.{Ask, Piece, Fork, ForkEnd, Reached, Stops, AllDone, IsNeverStuck, HoldSameCells, begun, main_ask, Limits, EndsAs, SerialEnd};
+ghost use Rattle.cm_meaning.specs.Meaning.{Ask, Note, Piece, Fork, GivesBack, ForkEnd, Reached, Stops, AllDone, IsNeverStuck, HoldSameCells, begun, main_ask, Limits, EndsAs, SerialEnd};
+ghost use Rattle.cm_meaning.specs.Law.{ComesFromOne};
 ghost use Rattle.cm_meaning.specs.Measure.{IsGreatest, IsSerialPages, IsCilkDepth, FitPages, FitDepth, frame_bytes};
 ghost use Rattle.cm_meaning.specs.Visible.{SeesProgram};
 
@@ -101,4 +103,17 @@ pub fn children_give_back()
         → Reached program limits.page input (begun (main_ask program limits)) p
         → HasNote Control Stack Destination p.log (child d own x joined ask r)
         → Fork program limits.page input (begun ask) (Done out v n) w → HoldSameCells ask.lent w }
+{}
+
+/// Shares that a child got for reading may come back before its sync. They come out of the answer of one child that is
+/// Done; what piece and answer hold comes to the same together as before; no word comes back whole, and what came back is
+/// in the answer no more, so that nothing comes back a second time.
+pub fn shares_come_back_once()
+    ensures from_one { (program : Program) (page : ℕ) (input : List ℤ) (log later : List Note) (h g : Stack)
+        → GivesBack program page input log h later g → ComesFromOne log later h g }
+    ensures together { (back rest given h g whole : Stack) → SharesBack back rest given → StackSum h back g
+        → StackSum h given whole → StackSum g rest whole }
+    ensures no_whole { (back rest given : Stack) → SharesBack back rest given → (d s i : ℕ) → may_write (back.words d s i) ≡ false }
+    ensures once { (back rest given : Stack) → SharesBack back rest given → (d s i : ℕ)
+        → is_held (back.words d s i) ≡ true → rest.words d s i ≡ absent }
 {}

@@ -1,9 +1,9 @@
 //! The laws of the definitions. The functions do nothing: their contracts are the laws.
 
-ghost use Rattle.std.specs.Prelude.{◌≡◌, ◌≤◌, ◌⊎◌, [], ℕ, List, ℤ, Option, Bool, true};
+ghost use Rattle.std.specs.Prelude.{◌≡◌, ◌≢◌, ◌≤◌, ◌⊎◌, [], ℕ, List, ℤ, Option, Bool, true};
 ghost use Rattle.cm_syntax.specs.declared.stmt.Program.{Program};
 ghost use Rattle.cm_syntax.specs.Fault.{IsSoundProgram};
-ghost use Rattle.cm_syntax.specs.Label.{ends};
+ghost use Rattle.cm_syntax.specs.Label.{ends, stuck};
 ghost use Rattle.cm_syntax.specs.Trap.{Trap};
 ghost use Rattle.cm_syntax.specs.Stack.{Stack, Destination, Argument, StackSum, IsUnder, empty_stack, settle};
 ghost use Rattle.cm_syntax.specs.Rest.{Control, control, idle, entering};
@@ -14,7 +14,7 @@ ghost use Rattle.cm_meaning.specs.Meaning.{Ask, Fork, ForkEnd, SerialEnd, begun,
 ghost use Rattle.cm_meaning.specs.Measure.{account_of};
 ghost use Rattle.cm_meaning.specs.Typing.{TypedProgram};
 ghost use Rattle.cm_meaning.specs.TypedState.{TypedState, KeepsTyped};
-ghost use Rattle.cm_meaning.specs.Law.{HoldsDestination, IsBeside, IsInside, arrival, LowersWeight, PartsStack, KeepsSettled};
+ghost use Rattle.cm_meaning.specs.Law.{HoldsDestination, IsBeside, writes_next, HasNeeded, IsInside, arrival, LowersWeight, PartsStack, KeepsSettled};
 
 /// A step that takes no tick leads to less weight.
 pub fn steps_lower_weight()
@@ -23,11 +23,15 @@ pub fn steps_lower_weight()
 {}
 
 /// Beside: a step on a stack that is joined to words which it doesn't hold, of frames below, is the same step with
-/// those words left as they are.
+/// those words left as they are. The other way, a step that isn't stuck on the whole isn't stuck on a part that has
+/// what the step needs.
 pub fn steps_beside_words()
-    ensures { (program : Program) (page : ℕ) (input : List ℤ) (c : Control) (h words whole : Stack)
+    ensures same { (program : Program) (page : ℕ) (input : List ℤ) (c : Control) (h words whole : Stack)
         → StackSum h words whole → IsUnder (frame_count c) words
         → IsBeside words (step program page input c h) (step program page input c whole) }
+    ensures needed { (program : Program) (page : ℕ) (input : List ℤ) (c : Control) (h words whole : Stack)
+        → StackSum h words whole → HasNeeded (writes_next c.rest) (step program page input c) h whole
+        → step program page input c whole ≢ stuck → step program page input c h ≢ stuck }
 {}
 
 /// Inside: a step of the elision is the same step within a caller's rest, and where the call is at its end its value is

@@ -26,7 +26,7 @@ pub use ended::{Ended, Limits, Measure, Trap};
 pub use ended_text::text;
 pub use fork_law::{
     checked_pieces_return, checked_programs_fork, checked_programs_go_on, children_give_back,
-    forks_end, reached_pieces_return, sound_programs_see,
+    forks_end, reached_pieces_return, shares_come_back_once, sound_programs_see,
 };
 pub use law::{
     accounts_of_calls, forks_mean_elisions, more_ticks_same_end, one_serial_end, runs_beside_words,

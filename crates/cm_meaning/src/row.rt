@@ -1,17 +1,21 @@
 //! Single programs worked out by hand, with which the definitions have to agree. The functions do nothing: their
 //! contracts are the rows.
 
-ghost use Rattle.std.specs.Prelude.{◌≡◌, ℕ, List, ℤ, pos, Some, None, [], ◌∷◌};
+ghost use Rattle.std.specs.Prelude.{true, ◌≡◌, ℕ, List, ℤ, pos, Some, None, [], ◌∷◌};
 ghost use Rattle.cm_syntax.specs.declared.expr.Expr.TheVariants as expression;
 ghost use Rattle.cm_syntax.specs.declared.expr.Op.TheVariants as op;
 ghost use Rattle.cm_syntax.specs.Shape.{InputAt};
 ghost use Rattle.cm_syntax.specs.Trap as kind;
 ghost use Rattle.cm_syntax.specs.Operator.{binary_value, unary_value};
-ghost use Rattle.cm_syntax.specs.Stack.{empty_stack};
+ghost use Rattle.cm_syntax.specs.Label.{stuck};
+ghost use Rattle.cm_syntax.specs.Cell.{value_in, may_write};
+ghost use Rattle.cm_syntax.specs.Stack.{Stack, StackSum, empty_stack};
+ghost use Rattle.cm_syntax.specs.Step.{write_step};
 ghost use Rattle.cm_meaning.specs.End.{End, Done, Trapped, Spent};
-ghost use Rattle.cm_meaning.specs.Meaning.{SerialEnd, GetsStuck, ForkEnd, first_control};
+ghost use Rattle.cm_meaning.specs.Meaning.{Fork, Goes, SerialEnd, GetsStuck, ForkEnd, first_control};
 ghost use Rattle.cm_meaning.specs.Measure.{IsSerialPages, IsCilkDepth};
 ghost use Rattle.cm_meaning.specs.Row as row;
+ghost use Rattle.cm_meaning.specs.ShareRow as share;
 
 /// Each operator at a corner of its range: where it wraps, and shifts by 31, 32 and -1.
 pub fn operators_at_corners()
@@ -181,4 +185,19 @@ pub fn measures_of_runs()
 pub fn cilk_calls_take_pages()
     ensures fits { SerialEnd row.cilk_main [] row.two_pages (Done [] (Some (pos 0)) 1) }
     ensures stack { SerialEnd row.cilk_main [] (row.with_bytes 256) (Trapped [] kind.Stack 1) }
+{}
+
+/// Two pieces hold halves of one word. Both read it, and neither may write; at the sync the halves are the whole again,
+/// and the word is written. Or the child's half comes back early: then the piece has the whole before its sync, the
+/// answer has nothing of it any more, and the end is the same.
+pub fn readers_share_a_word()
+    ensures parts { StackSum share.lent share.kept share.before }
+    ensures both_read { (value_in (share.lent.words 0 0 0) ≡ Some (pos 7)) × (value_in (share.kept.words 0 0 0) ≡ Some (pos 7)) }
+    ensures neither_writes { (v : ℤ) → (write_step share.called share.lent 0 0 0 None v [] ≡ stuck)
+        × (write_step share.going_on share.kept 0 0 0 None v [] ≡ stuck) }
+    ensures hears { Goes share.readers 256 [] share.reader share.heard }
+    ensures end { (w : Stack) × Fork share.readers 256 [] share.reader (Done (pos 7 ∷ pos 7 ∷ []) (Some (pos 8)) 3) w }
+    ensures returns { Goes share.readers 256 [] share.heard share.returned }
+    ensures whole_again { (value_in (share.returned.held.words 0 0 0) ≡ Some (pos 7)) × (may_write (share.returned.held.words 0 0 0) ≡ true) }
+    ensures early_end { (w : Stack) × Fork share.readers 256 [] share.returned (Done (pos 7 ∷ pos 7 ∷ []) (Some (pos 8)) 3) w }
 {}

@@ -9,7 +9,7 @@ use Rattle.std.specs.Prelude.{⊤, Bool, true, false, if◌then◌else◌, ◌==
 use Rattle.std.specs.Int.{w32, cast_signed}
 use Rattle.cm_isa.specs.Action.{action_at, follow}
 use Rattle.cm_isa.specs.Effect.{action_change}
-use Rattle.cm_isa.specs.Machine.{Machine, Mapped, Code, StepsTo, with_write, mapped_cell, next_machine}
+use Rattle.cm_isa.specs.Machine.{Machine, Mapped, writable, reads, readable_words, writable_words, IsWritable, Code, StepsTo, with_write, mapped_cell, next_machine}
 use Rattle.cm_isa.specs.Operation.{ecall}
 use Rattle.cm_isa.specs.Run.{ComesTo, replied_machine}
 use Rattle.cm_isa.specs.declared.convention.TheConstants as reg
@@ -34,7 +34,7 @@ use Rattle.cm_gen.specs.Standing.{form_of, form_here}
 use Rattle.cm_gen.specs.FrameWord.{bits, words_in, bytes_of, taken}
 use Rattle.cm_gen.specs.Formed.{Runs, Formed, KeepsFormed}
 use Rattle.cm_gen.specs.StandsFor.{Spot, ExactAt, Exact, Serves, Reaches, stands, hears, opens, Arrives, ArrivesSpawn, ArrivesSync, LeadsFrom, passed}
-use Rattle.cm_gen.proofs.MappedWordLaw.{is_some_at}
+use Rattle.cm_gen.proofs.MappedWordLaw.{is_own_at}
 use Rattle.cm_gen.proofs.FrameWordLaw.{may_stand_above, may_stand_low, low_end_below}
 use Rattle.cm_serial.specs.declared.service.Stop.TheVariants as stop
 use Rattle.cm_serial.specs.declared.service.Answer.{Answer}
@@ -45,28 +45,28 @@ use Rattle.cm_serial.specs.Run as run
 
 -- ---- mapped words stay mapped
 
-kept_write : (w : Mapped) (write : Option (ℕ × ℕ)) (a : ℕ) → IsSome (w a) → IsSome (with_write w write a)
+kept_write : (w : Mapped) (write : Option (ℕ × ℕ)) (a : ℕ) → IsWritable (w a) → IsWritable (with_write w write a)
 kept_write w None a h = h
 kept_write w (Some x) a h = by (a == x.0)
   where
-    by : (same : Bool) → IsSome (if same then Some x.1 else w a)
-    by true = is_some_at (Some x.1) x.1 refl
+    by : (same : Bool) → IsWritable (if same then writable x.1 else w a)
+    by true = tt
     by false = h
 
 kept_next : (next : Next) (result : Option ℕ) (rd : ℕ) (write : Option (ℕ × ℕ)) (m last : Machine) → next_machine next result rd write m ≡ Some last
-    → (a : ℕ) → IsSome (m.words a) → IsSome (last.words a)
-kept_next (At address) result rd write m last e a h = subst (λ (t : Machine). IsSome (t.words a)) (same_Some _ last e) (kept_write m.words write a h)
+    → (a : ℕ) → IsWritable (m.words a) → IsWritable (last.words a)
+kept_next (At address) result rd write m last e a h = subst (λ (t : Machine). IsWritable (t.words a)) (same_Some _ last e) (kept_write m.words write a h)
 kept_next Service result rd write m last e a h = absurd (none-some last e)
 kept_next (PageFault address) result rd write m last e a h = absurd (none-some last e)
 kept_next (Fault fault address) result rd write m last e a h = absurd (none-some last e)
 
-kept_step : (code : Code) (m next : Machine) → StepsTo code m next → (a : ℕ) → IsSome (m.words a) → IsSome (next.words a)
+kept_step : (code : Code) (m next : Machine) → StepsTo code m next → (a : ℕ) → IsWritable (m.words a) → IsWritable (next.words a)
 kept_step code m next s =
-    let change = action_change (mapped_cell m.words) (action_at s.instruction m.registers m.counter) m.counter in
+    let change = action_change (mapped_cell (readable_words m.words)) (mapped_cell (writable_words m.words)) (action_at s.instruction m.registers m.counter) m.counter in
     kept_next change.next change.result s.instruction.rd change.write m next s.effect
 
-kept_run : (code : Code) (n : ℕ) (m last : Machine) → ComesTo code n m last → (a : ℕ) → IsSome (m.words a) → IsSome (last.words a)
-kept_run code zero m last c a h = subst (λ (t : Machine). IsSome (t.words a)) c h
+kept_run : (code : Code) (n : ℕ) (m last : Machine) → ComesTo code n m last → (a : ℕ) → IsWritable (m.words a) → IsWritable (last.words a)
+kept_run code zero m last c a h = subst (λ (t : Machine). IsWritable (t.words a)) c h
 kept_run code (suc n) m last c a h = kept_run code n c.0 last c.2 a (kept_step code m c.0 c.1 a h)
 
 -- ---- numbers
@@ -170,7 +170,7 @@ module _ (program : Program) (limits : Limits) (input : List ℤ) (code : Code) 
         low : old.low ≤ 2 ^ 30
         low = let a = may_stand_low program limits.page before old.frames old.low may in let b = low_end_below program limits.page before old.frames frames in omega (arith, a, b)
 
-        mapped : (a : ℕ) → a % 4 ≡ 0 → old.low - bytes_of program limits.page f ≤ a → a < old.low → IsSome (m.words a)
+        mapped : (a : ℕ) → a % 4 ≡ 0 → old.low - bytes_of program limits.page f ≤ a → a < old.low → IsWritable (m.words a)
         mapped a whole from until =
             let balance = formed.balance in
             let took = ap (taken program limits.page) calls_are in
@@ -178,7 +178,7 @@ module _ (program : Program) (limits : Limits) (input : List ℤ) (code : Code) 
             stack a whole (omega (arith, from, above, balance, took, fits)) (omega (arith, until, low))
 
         opened : Reaches program Serial limits.page input code old left d g m
-        opened = x.goes_on m.words (λ a v e. e) mapped
+        opened = x.goes_on m.words (record { keeps_writable = λ a v e. e; keeps_readable = λ a v e. ap (λ s. reads s) e }) mapped
     arrive (ticks d g) old zero calls h m printed formed stack x = (1, run.stops stop.Spent (asks 6 m _ x refl) refl)
     arrive (ticks d g) old (suc left) calls h m printed formed stack x = λ e after. after m stack (x.0, x.2)
     arrive (prints v d g) old left calls h m printed formed stack x = λ e after.

@@ -11,7 +11,7 @@ use Rattle.cm_isa.proofs.Machine.{put_register}
 use Rattle.cm_syntax.specs.declared.stmt.Program.{Program}
 use Rattle.cm_meaning.specs.Meaning.{Limits}
 use Rattle.cm_gen.specs.Run.{stack_top, start_registers}
-use Rattle.cm_gen.proofs.MappedWordLaw.{is_some_at}
+use Rattle.cm_gen.proofs.MappedWordLaw.{is_own_at}
 use Rattle.cm_serial.specs.Run.{stack_bytes, IsStart}
 use Rattle.cm_serial.specs.Stack.{stack_low, stack_shown, stack_view, first_registers, start_machine}
 
@@ -105,5 +105,5 @@ zeros_start program limits whole small = record {
       let test : (a % 4 == 0) ≡ true = eq-eqb (a % 4) 0 aligned in
       let here = shown_in (length stack) a (omega (arith, count, whole, low)) high in
       let inside : nat_lt place (length stack) ≡ true = lt-ltb place (length stack) (omega (arith, count, whole, low, high, small)) in
-      rw (test, here, inside) (is_some_at (Some (slice_index stack place)) (slice_index stack place) refl);
+      rw (test, here, inside) tt;
 }

@@ -4,7 +4,7 @@ use Rattle.std.specs.Prelude.{◌≡◌, ℕ, suc, ◌+◌, ◌*◌, ◌-◌, �
 use Rattle.std.specs.Int.{w32, cast_signed}
 use Rattle.cm_isa.specs.Address.{AreWordsOf, InstructionAt}
 use Rattle.cm_isa.specs.Operation.{ecall}
-use Rattle.cm_isa.specs.Machine.{Machine, Mapped, Code, StepsTo}
+use Rattle.cm_isa.specs.Machine.{Machine, Mapped, IsWritable, Code, StepsTo}
 use Rattle.cm_isa.specs.Run.{replied_machine}
 use Rattle.cm_isa.specs.declared.convention.TheConstants as reg
 use Rattle.cm_syntax.specs.declared.stmt.Program.{Program}
@@ -58,7 +58,7 @@ stack_bytes limits = limits.stack * limits.page
 
 -- each word of a stack of so many bytes is mapped
 abbrev pub HasStack : (bytes : ℕ) → Mapped → Type 0
-HasStack bytes w = (a : ℕ) → a % 4 ≡ 0 → stack_top - bytes ≤ a → a < stack_top → IsSome (w a)
+HasStack bytes w = (a : ℕ) → a % 4 ≡ 0 → stack_top - bytes ≤ a → a < stack_top → IsWritable (w a)
 
 -- A machine at the start of a program's run: at main's word in the table, with the top of the stack, the account and the ticks
 -- in their registers and 0 in all others, and with the whole stack mapped.

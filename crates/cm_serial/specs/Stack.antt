@@ -1,7 +1,7 @@
 -- The stack as a list of words, and the machine of a hart over it.
 use Rattle.std.specs.Prelude.{ℕ, ◌-◌, ◌*◌, ◌/◌, nat_lt, if◌then◌else◌, List, length, slice_index, replicate}
 use Rattle.cm_isa.specs.Register.{put}
-use Rattle.cm_isa.specs.View.{View}
+use Rattle.cm_isa.specs.View.{View, full_where}
 use Rattle.cm_isa.specs.Machine.{Machine, machine_of}
 use Rattle.cm_isa.specs.declared.convention.TheConstants as reg
 use Rattle.cm_isa.specs.declared.memory.Shown.{Shown}
@@ -22,9 +22,9 @@ abbrev pub stack_shown : (count address : ℕ) → Shown
 stack_shown count address =
     if nat_lt address (stack_low count) then Outside else if nat_lt address stack_top then Place ((address - stack_low count) / 4) else Outside
 
--- the stack as an instruction sees it: each of its words may be touched
+-- the stack as an instruction sees it: each of its words may be read and written
 abbrev pub stack_view : (stack : List ℕ) → View
-stack_view stack = record { shown = stack_shown (length stack); allowed = λ place. nat_lt place (length stack); word_at = slice_index stack }
+stack_view stack = record { shown = stack_shown (length stack); access = λ place. full_where (nat_lt place (length stack)); word_at = slice_index stack }
 
 -- the registers at the start of a run
 abbrev pub first_registers : (account ticks : ℕ) → List ℕ

@@ -2,6 +2,8 @@
 pub mod ValueRow
 pub mod FrameLaw
 pub mod StatementLaw
+pub mod CellLaw
+pub mod AccessLaw
 pub mod lexing
 pub mod refusing
 pub mod YieldLaw

@@ -23,6 +23,7 @@ pub mod Lending
 pub mod Trap
 pub mod Operator
 pub mod Label
+pub mod Cell
 pub mod Stack
 pub mod Rest
 pub mod Step

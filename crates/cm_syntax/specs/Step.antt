@@ -21,7 +21,8 @@ use Rattle.cm_syntax.specs.Frame.{frame_words}
 use Rattle.cm_syntax.specs.Trap as kind
 use Rattle.cm_syntax.specs.Label.{Step, silent, ticks, prints, spawns, syncs, traps, ends, stuck}
 use Rattle.cm_syntax.specs.Operator.{is_zero, natural, binary_value, divides, unary_value}
-use Rattle.cm_syntax.specs.Stack.{Cell, absent, unset, present, Reference, Stack, Destination, Argument, word, slice, are_held, write_word, clear_words, write_parts, push_frame, pop_frame, lent_stack, kept_stack}
+use Rattle.cm_syntax.specs.Cell.{Cell, absent, unset, present, shared}
+use Rattle.cm_syntax.specs.Stack.{Reference, Stack, Destination, Argument, word, slice, may_write_all, write_word, clear_words, write_parts, push_frame, pop_frame, lent_stack, kept_stack}
 use Rattle.cm_syntax.specs.Rest.{Purpose, called, spawned, Item, evaluate, right, apply, prefix, both, either, truth, element, read, arguments, pass, take_back, discard, deliver, perform, sequence, body, declare, assign, update, locate, store, branch, turn, test, part, tick, show, exit, fall, join, end, Hand, idle, holds, returned, entering, framing, Control, control}
 
 -- a step of this language
@@ -72,16 +73,18 @@ hand_value _ = None
 -- ---- what a step needs: where it isn't there the state is stuck
 
 -- what is read is present
-abbrev pub when_present : {A : Type 0} → Cell A → (A → Move) → Move
-when_present (present v) goes_on = goes_on v
-when_present unset goes_on = stuck
-when_present absent goes_on = stuck
+abbrev pub when_readable : {A : Type 0} → Cell A → (A → Move) → Move
+when_readable (present v) goes_on = goes_on v
+when_readable (shared p v) goes_on = goes_on v
+when_readable unset goes_on = stuck
+when_readable absent goes_on = stuck
 
--- what is written is held
-abbrev pub when_held : {A : Type 0} → Cell A → Move → Move
-when_held absent move = stuck
-when_held unset move = move
-when_held (present v) move = move
+-- of what is written the whole is held
+abbrev pub when_writable : {A : Type 0} → Cell A → Move → Move
+when_writable absent move = stuck
+when_writable unset move = move
+when_writable (present v) move = move
+when_writable (shared p v) move = stuck
 
 -- a value is at hand
 abbrev pub when_value : Hand → (ℤ → Move) → Move
@@ -107,10 +110,11 @@ go_on c h k = silent (to c k) h
 abbrev pub hold : Control → Stack → ℤ → List Item → Move
 hold c h v k = silent (to_value c v k) h
 
--- A value goes into a word: as it is, or the word becomes what the operator gives of the old word and the value.
+-- A value goes into a word, of which the whole is held: as it is, or the word becomes what the operator gives of the old
+-- word and the value.
 abbrev pub write_step : Control → Stack → (depth slot index : ℕ) → Option Op → ℤ → List Item → Move
-write_step c h d s i None v k = when_held (h.words d s i) (silent (to c k) (write_word h d s i v))
-write_step c h d s i (Some o) v k = when_present (h.words d s i) (λ old. when_result o (binary_value o old v) (λ w. silent (to c k) (write_word h d s i w)))
+write_step c h d s i None v k = when_writable (h.words d s i) (silent (to c k) (write_word h d s i v))
+write_step c h d s i (Some o) v k = when_writable (h.words d s i) (when_readable (h.words d s i) (λ old. when_result o (binary_value o old v) (λ w. silent (to c k) (write_word h d s i w))))
 
 -- a completed `return` goes to the join of its function, with what is at hand
 abbrev pub leave : Control → Stack → Option (List Item) → Move
@@ -136,7 +140,7 @@ scalar_slice depth slot = record { depth = depth; slot = slot; start = 0; length
 abbrev pub slice_in : (calls : List ℕ) → Stack → Option Slot → (s : ℕ) → (Reference → Move) → Move
 slice_in calls h (Some slot.Scalar) s goes_on = goes_on (scalar_slice (top calls) s)
 slice_in calls h (Some (slot.Array words)) s goes_on = goes_on (record { depth = top calls; slot = s; start = 0; length = words })
-slice_in calls h (Some slot.Slice) s goes_on = when_present (h.references (top calls) s) goes_on
+slice_in calls h (Some slot.Slice) s goes_on = when_readable (h.references (top calls) s) goes_on
 slice_in calls h None s goes_on = stuck
 
 -- ---- functions
@@ -166,11 +170,11 @@ invoke c h purpose _ k = stuck
 abbrev pub spawn_call : Control → Stack → (f : ℕ) → List Argument → Destination → List Item → Move
 spawn_call c h f ws x k = spawns (control c.calls c.account (entering f ws) []) (lent_stack h x ws) x (to c k) (kept_stack h x ws)
 
--- All arguments are known: the call is at hand, or it is spawned. A destination has to be held.
+-- All arguments are known: the call is at hand, or it is spawned. A destination has to be held whole.
 abbrev pub enter_call : Control → Stack → Purpose → (f : ℕ) → List Argument → List Item → Move
 enter_call c h called f ws k = silent (control c.calls c.account (entering f ws) k) h
 enter_call c h (spawned None) f ws k = spawn_call c h f ws None k
-enter_call c h (spawned (Some x)) f ws k = when_held (h.words (top c.calls) x 0) (spawn_call c h f ws (Some (record { depth = top c.calls; slot = x })) k)
+enter_call c h (spawned (Some x)) f ws k = when_writable (h.words (top c.calls) x 0) (spawn_call c h f ws (Some (record { depth = top c.calls; slot = x })) k)
 
 -- what a call came back with is a value of an expression
 abbrev pub take_value : Control → Stack → Hand → List Item → Move
@@ -196,7 +200,7 @@ abbrev pub declare_item : Control → Stack → (x : ℕ) → Slot → Option (E
 declare_item c h x slot.Scalar None more k = write_step c h (top c.calls) x 0 None (pos 0) (declare more ∷ k)
 declare_item c h x slot.Scalar (Some e) more k = go_on c h (evaluate e ∷ assign x ∷ declare more ∷ k)
 declare_item c h x (slot.Array n) e more k =
-    if are_held (h.words (top c.calls) x) n then silent (to c (declare more ∷ k)) (clear_words h (top c.calls) x n) else stuck
+    if may_write_all (h.words (top c.calls) x) n then silent (to c (declare more ∷ k)) (clear_words h (top c.calls) x n) else stuck
 declare_item c h x slot.Slice e more k = stuck
 
 -- what an `if` does where its condition is 0
@@ -249,7 +253,7 @@ module _ (program : Program) (page : ℕ) (input : List ℤ) where
   -- an expression, whose left operand comes first
   abbrev pub evaluate_step : Control → Stack → Expr ℕ → List Item → Move
   evaluate_step c h (expression.Number n) k = hold c h n k
-  evaluate_step c h (expression.Scalar x) k = when_present (h.words (top c.calls) x.name 0) (λ v. hold c h v k)
+  evaluate_step c h (expression.Scalar x) k = when_readable (h.words (top c.calls) x.name 0) (λ v. hold c h v k)
   evaluate_step c h (Element a index) k = go_on c h (evaluate index ∷ element a.name ∷ k)
   evaluate_step c h (expression.Len a) k = when_slice c h a.name (λ r. hold c h (pos r.length) k)
   evaluate_step c h (InputAt index) k = go_on c h (evaluate index ∷ read ∷ k)
@@ -290,7 +294,7 @@ module _ (program : Program) (page : ℕ) (input : List ℤ) where
   item_step c h (either r) k = when_value c.hand (λ a. if is_zero a then go_on c h (evaluate r ∷ truth ∷ k) else hold c h a (truth ∷ k))
   item_step c h truth k = when_value c.hand (λ a. hold c h (if is_zero a then pos 0 else pos 1) k)
   item_step c h (element a) k = when_value c.hand (λ v. when_slice c h a (λ r.
-      if is_index v r.length then when_present (h.words r.depth r.slot (r.start + natural v)) (λ w. hold c h w k) else traps kind.Index))
+      if is_index v r.length then when_readable (h.words r.depth r.slot (r.start + natural v)) (λ w. hold c h w k) else traps kind.Index))
   item_step c h read k = when_value c.hand (λ v. if is_index v (length input) then give_input c h (slice_get input (natural v)) k else traps kind.Input)
   item_step c h (arguments u f ws end_of-Arg) k = enter_call c h u f ws k
   item_step c h (arguments u f ws (more_of-Arg (arg.Value e) more)) k = go_on c h (evaluate e ∷ pass u f ws more ∷ k)
@@ -317,7 +321,7 @@ module _ (program : Program) (page : ℕ) (input : List ℤ) where
   item_step c h (turn None s b) k = go_on c h (tick ∷ perform b ∷ perform s ∷ turn None s b ∷ k)
   item_step c h (test t s b) k = when_value c.hand (λ v. if is_zero v then go_on c h k else go_on c h (tick ∷ perform b ∷ perform s ∷ turn (Some t) s b ∷ k))
   item_step c h (part a l r row) k = when_value c.hand (λ v. when_slice c h a (λ x. if is_split v x.length
-      then when_held (h.references (top c.calls) l) (when_held (h.references (top c.calls) r)
+      then when_writable (h.references (top c.calls) l) (when_writable (h.references (top c.calls) r)
       (silent (to c (sequence row ∷ k)) (write_parts h (top c.calls) l r x (natural v))))
       else traps kind.Index))
   item_step c h tick k = ticks (control c.calls c.account c.hand k) h

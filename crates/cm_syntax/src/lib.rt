@@ -4,6 +4,7 @@
 //! prints nothing.
 #![tactic(auto)]
 
+mod cell_law;
 mod checked;
 mod expr;
 mod frame;
@@ -12,6 +13,7 @@ mod name;
 mod stmt;
 mod token;
 
+pub use cell_law::{cells_come_together, loans_part_cells};
 pub use checked::Checked;
 pub use expr::{Arg, Call, Expr, Mark, Op};
 pub use frame::{checked_frame_words, checked_slots_words, frame_bytes, frame_words};

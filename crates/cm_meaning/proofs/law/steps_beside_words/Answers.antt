@@ -1,5 +1,8 @@
-use Rattle.cm_meaning.proofs.BesideLaw.{beside}
+use Rattle.cm_meaning.proofs.BesideLaw.{beside, goes_on}
 use Rattle.cm_meaning.proofs.law.steps_beside_words.Goals as goal
 
-pub returns : goal.returns
-returns c = λ program page input c h b g o low. beside program page input h b g o c low
+pub returns-clause-same : goal.returns-clause-same
+returns-clause-same c = λ program page input control h b g o. beside program page input h b g o control
+
+pub returns-clause-needed : goal.returns-clause-needed
+returns-clause-needed c = λ program page input control h b g o has on e. on (goes_on program page input h b g o control has e)

@@ -1,0 +1,3 @@
+-- The lemmas that the crates above share.
+pub mod ShareLaw
+mod StringsLaw
