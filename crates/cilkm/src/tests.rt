@@ -1,5 +1,6 @@
 //! The program over streams in memory: its words, limits met and passed, and streams that fail. The tables of sources
 //! stand in the modules below.
+mod big;
 mod build;
 mod lending;
 mod mean;

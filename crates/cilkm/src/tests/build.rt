@@ -7,7 +7,7 @@ use std::alloc::Global;
 use std::test::Fail;
 
 /// Streams whose sink has room for the longest listing.
-const ROOMY: Streams = Streams {
+pub(super) const ROOMY: Streams = Streams {
     give: 65536,
     read_fails: 0,
     take: 4_194_304,
