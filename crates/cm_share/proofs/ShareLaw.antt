@@ -21,7 +21,7 @@ first_point n = false
 
 abbrev mutual
   -- some point of the share
-  some_point : (s : Share) → (x : Point) × (has_point s x ≡ true)
+  pub some_point : (s : Share) → (x : Point) × (has_point s x ≡ true)
   some_point whole = (first_point, refl)
   some_point (part p) = part_point p
 
@@ -107,7 +107,7 @@ or_in true p q r s t u v e f g = e ∙ f
 or_in false p q r s t u v e f g = e ∙ g
 
 mutual
-  has_together : (s : Share) (o : Option Share) (x : Point) → has_point (together s o) x ≡ (has_point s x || has o x)
+  pub has_together : (s : Share) (o : Option Share) (x : Point) → has_point (together s o) x ≡ (has_point s x || has o x)
   has_together whole o x = refl
   has_together (part p) o x = part_has_together p o x
 

@@ -1,3 +1,4 @@
 pub mod Share
 pub mod Together
 pub mod Strings
+pub mod ShareCode

@@ -430,3 +430,25 @@ valued P v w s absent e = absurd (cc e)
 valued P v w s unset e = absurd (cc e)
 valued P v w s (present u) e = subst (λ z. P (present z)) (cc e) w
 valued P v w s (shared p u) e = subst (λ z. P (shared p z)) (cc e) (s p)
+
+-- ---- what comes back
+
+-- a cell comes back as it was
+pub back_same : {A : Type 0} (a b : Cell A) → b ≡ a → ComesBack a b
+back_same absent b e = ap share_in e
+back_same unset b e = ap share_in e
+back_same (present v) b e = ap share_in e
+back_same (shared p v) b e = e
+
+whole_share : {A : Type 0} (c : Cell A) → may_write c ≡ true → share_in c ≡ Some whole
+whole_share absent h = cc h
+whole_share unset h = refl
+whole_share (present v) h = refl
+whole_share (shared p v) h = cc h
+
+-- and one that was lent whole comes back whole, with whatever value
+pub back_whole : {A : Type 0} (a b : Cell A) → may_write a ≡ true → may_write b ≡ true → ComesBack a b
+back_whole absent b h g = cc h
+back_whole unset b h g = whole_share b g
+back_whole (present v) b h g = whole_share b g
+back_whole (shared p v) b h g = cc h

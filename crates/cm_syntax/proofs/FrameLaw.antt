@@ -1,7 +1,6 @@
 -- What the definitions of a frame say of each expression as the code matches it, and of the arguments of a call.
 use Rattle.std.proofs.Common.{◌≡◌, ℕ, zero, suc, ◌+◌, ◌<◌, ◌≤◌, max, ◌⊎◌, inl, inr, Bool, true, false, if◌then◌else◌, List, [], ◌∷◌, length, get_or, drop, drop-cons, add-one, refl, sym, ap, ◌∙◌, arith}
 use Rattle.std.proofs.lemmas.Bool.{cases_lt}
-use mathlib.Core.Former.{Count}
 use Rattle.cm_syntax.specs.declared.expr.Mark.{Mark}
 use Rattle.cm_syntax.specs.declared.expr.Op.{Op}
 use Rattle.cm_syntax.specs.declared.expr.Expr.{Expr}
@@ -13,6 +12,7 @@ use Rattle.cm_syntax.specs.declared.expr.Call.{Row_of-Arg, end_of-Arg, more_of-A
 use Rattle.cm_syntax.specs.Shape.{Joined, Prefixed, Element, InputAt, Binary-Joined, Unary-Prefixed, Index-Element, Input-InputAt}
 use Rattle.cm_syntax.specs.Limit.{max_frame_words}
 use Rattle.cm_syntax.specs.Frame.{capped, is_short_circuit, argument_words, arguments_words, temporaries, arguments_temporaries, argument_temporaries}
+use Rattle.cm_syntax.proofs.Rows.{row_of_call}
 
 -- ---- the measure of an expression, and what is in use at least
 
@@ -174,10 +174,6 @@ temporaries_row n (more_of-Arg argument more) d =
 size_row : {N : Type 0} (n : _) (row : Row_of-Arg N n) → row_size row ≡ arguments_size (items-the_row-Arg N n row)
 size_row n end_of-Arg = refl
 size_row n (more_of-Arg argument more) = ap (λ x. argument_size argument + x) (size_row _ more)
-
-abbrev row_of_call : {N : Type 0} → Expr N → (n : Count) × Row_of-Arg N n
-row_of_call (Call' _ _ row) = (_, row)
-row_of_call _ = (_, end_of-Arg)
 
 -- The temporaries of a call, where arguments are left, and `most` and `used` are what those before came to.
 abbrev pub rest_of_call : {N : Type 0} → List (Arg N) → (most used : ℕ) → ℕ

@@ -1,6 +1,5 @@
 -- What the definitions of a frame say of each statement as the code matches it, and of the lists that loops go through.
 use Rattle.std.proofs.Common.{◌≡◌, ℕ, zero, suc, ◌+◌, ◌<◌, ◌≤◌, max, Option, Some, None, List, [], ◌∷◌, length, get_or, drop, refl, ap, ◌∙◌, arith}
-use mathlib.Core.Former.{Count}
 use Rattle.cm_syntax.specs.declared.expr.Mark.{Mark}
 use Rattle.cm_syntax.specs.declared.expr.Expr.{Expr}
 use Rattle.cm_syntax.specs.declared.stmt.Stmt.{Stmt, Row_of-Stmt, end_of-Stmt, more_of-Stmt, items-the_row-Stmt, items_hidden-the_row-Stmt-1}
@@ -8,6 +7,7 @@ use Rattle.cm_syntax.specs.declared.stmt.Stmt.TheVariants.{If, While, For, Split
 use Rattle.cm_syntax.proofs.FrameLaw.{next}
 use Rattle.cm_syntax.specs.Shape.{IfAlone, IfElse, WhileLoop, ForLoop}
 use Rattle.cm_syntax.specs.Frame.{temporaries, optional_temporaries, statement_temporaries, statements_temporaries, body_temporaries}
+use Rattle.cm_syntax.proofs.Rows.{row_of_block}
 
 -- ---- the variants as the code makes them
 
@@ -141,11 +141,6 @@ row_sizes : {N : Type 0} (n : _) (row : Row_of-Stmt N n) → row_size row ≡ bo
 row_sizes n end_of-Stmt = refl
 row_sizes n (more_of-Stmt first more) = ap (λ x. statement_size first + x) (row_sizes _ more)
 
-abbrev row_of : {N : Type 0} → Stmt N → (n : Count) × Row_of-Stmt N n
-row_of (Block' _ row) = (_, row)
-row_of (Split' _ _ _ _ _ row _) = (_, row)
-row_of _ = (_, end_of-Stmt)
-
 -- s has what its block has, after an expression
 pub record Holds {N : Type 0} (s : Stmt N) (before : ℕ) (body : List (Stmt N)) : Type 0 where
   pub smaller : body_size body + 1 < statement_size s
@@ -153,7 +148,7 @@ pub record Holds {N : Type 0} (s : Stmt N) (before : ℕ) (body : List (Stmt N))
 
 pub holds-Block : {N : Type 0} (s : Stmt N) (body got : List (Stmt N)) → s ≡ Block body → got ≡ body → Holds s 0 got
 holds-Block s body got is got_is =
-    let row = row_of (Block body) in
+    let row = row_of_block (Block body) in
     let same = items_hidden-the_row-Stmt-1 _ body in
     let most : statements_temporaries row.1 ≡ body_temporaries body = row_most row.0 row.1 ∙ ap body_temporaries same in
     let size : row_size row.1 ≡ body_size body = row_sizes row.0 row.1 ∙ ap body_size same in
@@ -167,7 +162,7 @@ holds-Block s body got is got_is =
 pub holds-Split : {N : Type 0} (s : Stmt N) (whole : Mark N) (index : Expr N) (left right : Mark N) (body : List (Stmt N)) (close : ℕ)
     (got : List (Stmt N)) → s ≡ Split whole index left right body close → got ≡ body → Holds s (temporaries index 0) got
 holds-Split s whole index left right body close got is got_is =
-    let row = row_of (Split whole index left right body close) in
+    let row = row_of_block (Split whole index left right body close) in
     let same = items_hidden-the_row-Stmt-1 _ body in
     let most : statements_temporaries row.1 ≡ body_temporaries body = row_most row.0 row.1 ∙ ap body_temporaries same in
     let size : row_size row.1 ≡ body_size body = row_sizes row.0 row.1 ∙ ap body_size same in

@@ -9,7 +9,8 @@ use Rattle.cm_syntax.specs.declared.expr.Arg.TheVariants.{Value, Slice, Address}
 use Rattle.cm_syntax.specs.declared.expr.Call.{Row_of-Arg, end_of-Arg, more_of-Arg}
 use Rattle.cm_syntax.specs.declared.expr.Expr.TheVariants as expression
 use Rattle.cm_syntax.specs.declared.stmt.Slot as slots
-use Rattle.cm_syntax.specs.declared.stmt.Slot.TheVariants as slot
+use Rattle.cm_syntax.specs.declared.stmt.Extent.{Extent}
+use Rattle.cm_syntax.specs.declared.stmt.Extent.TheVariants as extent
 use Rattle.cm_syntax.specs.declared.stmt.Item.{Item}
 use Rattle.cm_syntax.specs.declared.stmt.Target.{Target}
 use Rattle.cm_syntax.specs.declared.stmt.Target.TheVariants as target
@@ -17,6 +18,7 @@ use Rattle.cm_syntax.specs.declared.stmt.Stmt.{Stmt, Row_of-Stmt, end_of-Stmt, m
 use Rattle.cm_syntax.specs.declared.stmt.Stmt.TheVariants as statement
 use Rattle.cm_syntax.specs.declared.stmt.Function.{Function}
 use Rattle.cm_syntax.specs.Limit.{max_frame_words}
+use Rattle.cm_syntax.specs.Extent.{extent_of}
 use Rattle.cm_syntax.specs.Shape.{Joined, Prefixed, Element, InputAt, IfAlone, IfElse, WhileLoop, ForLoop}
 
 -- an operator that stops early, so that its left operand isn't kept
@@ -110,11 +112,15 @@ body_temporaries (first ∷ more) = max (statement_temporaries first) (body_temp
 
 -- ---- frames
 
--- the words of a slot: an array its length, a slice an address and a length
+-- the words that an extent takes: a reference an address and a length
+abbrev pub extent_words : Extent → ℕ
+extent_words extent.Word = 1
+extent_words (extent.Words words) = words
+extent_words extent.Reference = 2
+
+-- the words of a slot
 abbrev pub slot_words : slots.Slot → ℕ
-slot_words slot.Scalar = 1
-slot_words (slot.Array words) = words
-slot_words slot.Slice = 2
+slot_words kind = extent_words (extent_of kind)
 
 -- the words of all slots
 abbrev pub slots_words : List slots.Slot → ℕ

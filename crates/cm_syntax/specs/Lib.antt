@@ -1,7 +1,7 @@
 pub mod Limit
 pub mod Word
 pub mod Shape
-pub mod Expr
+pub mod Extent
 pub mod Frame
 pub mod Text
 pub mod Token
@@ -11,7 +11,7 @@ pub mod Yield
 pub mod Lowering
 pub mod Grammar
 pub mod Refusal
-pub mod Machine
+pub mod Parser
 pub mod Canonical
 pub mod Offset
 pub mod Resolution

@@ -9,13 +9,15 @@ use Rattle.cm_syntax.specs.declared.expr.Expr.TheVariants as expression
 use Rattle.cm_syntax.specs.declared.expr.Arg.TheVariants as arg
 use Rattle.cm_syntax.specs.declared.expr.Call.{end_of-Arg, more_of-Arg}
 use Rattle.cm_syntax.specs.declared.stmt.Slot.{Slot}
-use Rattle.cm_syntax.specs.declared.stmt.Slot.TheVariants as slot
+use Rattle.cm_syntax.specs.declared.stmt.Extent.{Extent}
+use Rattle.cm_syntax.specs.declared.stmt.Extent.TheVariants as extent
 use Rattle.cm_syntax.specs.declared.stmt.Item as items
 use Rattle.cm_syntax.specs.declared.stmt.Target.TheVariants as target
 use Rattle.cm_syntax.specs.declared.stmt.Stmt.{Stmt, end_of-Stmt, more_of-Stmt}
 use Rattle.cm_syntax.specs.declared.stmt.Stmt.TheVariants as statement
 use Rattle.cm_syntax.specs.declared.stmt.Function.{Function}
 use Rattle.cm_syntax.specs.declared.stmt.Program.{Program}
+use Rattle.cm_syntax.specs.Extent.{extent_of, extent_at}
 use Rattle.cm_syntax.specs.Shape.{Joined, Prefixed, Element, InputAt, IfAlone, IfElse, WhileLoop, ForLoop}
 use Rattle.cm_syntax.specs.Frame.{frame_words}
 use Rattle.cm_syntax.specs.Trap as kind
@@ -136,11 +138,11 @@ is_split (negsuc n) count = false
 abbrev pub scalar_slice : (depth slot : ℕ) → Reference
 scalar_slice depth slot = record { depth = depth; slot = slot; start = 0; length = 1 }
 
--- the words of a slot of the running function, as a reference: an array's own words, or what the slice refers to
-abbrev pub slice_in : (calls : List ℕ) → Stack → Option Slot → (s : ℕ) → (Reference → Move) → Move
-slice_in calls h (Some slot.Scalar) s goes_on = goes_on (scalar_slice (top calls) s)
-slice_in calls h (Some (slot.Array words)) s goes_on = goes_on (record { depth = top calls; slot = s; start = 0; length = words })
-slice_in calls h (Some slot.Slice) s goes_on = when_readable (h.references (top calls) s) goes_on
+-- the words of a slot of the running function, as a reference: its own words, or what its reference refers to
+abbrev pub slice_in : (calls : List ℕ) → Stack → Option Extent → (s : ℕ) → (Reference → Move) → Move
+slice_in calls h (Some extent.Word) s goes_on = goes_on (scalar_slice (top calls) s)
+slice_in calls h (Some (extent.Words words)) s goes_on = goes_on (record { depth = top calls; slot = s; start = 0; length = words })
+slice_in calls h (Some extent.Reference) s goes_on = when_readable (h.references (top calls) s) goes_on
 slice_in calls h None s goes_on = stuck
 
 -- ---- functions
@@ -195,13 +197,13 @@ deliver_value c h _ _ k = stuck
 
 -- ---- statements
 
--- a variable is declared, and then the others: a scalar is 0 or its value, an array all 0
-abbrev pub declare_item : Control → Stack → (x : ℕ) → Slot → Option (Expr ℕ) → List (items.Item ℕ) → List Item → Move
-declare_item c h x slot.Scalar None more k = write_step c h (top c.calls) x 0 None (pos 0) (declare more ∷ k)
-declare_item c h x slot.Scalar (Some e) more k = go_on c h (evaluate e ∷ assign x ∷ declare more ∷ k)
-declare_item c h x (slot.Array n) e more k =
+-- a variable is declared, and then the others: one word is 0 or its value, so many words are all 0
+abbrev pub declare_item : Control → Stack → (x : ℕ) → Extent → Option (Expr ℕ) → List (items.Item ℕ) → List Item → Move
+declare_item c h x extent.Word None more k = write_step c h (top c.calls) x 0 None (pos 0) (declare more ∷ k)
+declare_item c h x extent.Word (Some e) more k = go_on c h (evaluate e ∷ assign x ∷ declare more ∷ k)
+declare_item c h x (extent.Words n) e more k =
     if may_write_all (h.words (top c.calls) x) n then silent (to c (declare more ∷ k)) (clear_words h (top c.calls) x n) else stuck
-declare_item c h x slot.Slice e more k = stuck
+declare_item c h x extent.Reference e more k = stuck
 
 -- what an `if` does where its condition is 0
 abbrev pub do_other : Control → Stack → Option (Stmt ℕ) → List Item → Move
@@ -214,10 +216,10 @@ fall_off c h None k = stuck
 fall_off c h (Some function) k = if function.gives then hold c h (pos 0) k else go_on c h k
 
 module _ (program : Program) (page : ℕ) (input : List ℤ) where
-  -- the slot of a variable of the running function
-  abbrev pub slot_at : (calls : List ℕ) → (s : ℕ) → Option Slot
+  -- what the slot of a variable of the running function has
+  abbrev pub slot_at : (calls : List ℕ) → (s : ℕ) → Option Extent
   slot_at [] s = None
-  slot_at (f ∷ calls) s = slice_get (slots_in (slice_get program.functions f)) s
+  slot_at (f ∷ calls) s = extent_at (slots_in (slice_get program.functions f)) s
 
   -- the running function
   abbrev pub running_function : (calls : List ℕ) → Option (Function ℕ)
@@ -310,7 +312,7 @@ module _ (program : Program) (page : ℕ) (input : List ℤ) where
   item_step c h (body []) k = go_on c h k
   item_step c h (body (first ∷ more)) k = go_on c h (perform first ∷ body more ∷ k)
   item_step c h (declare []) k = go_on c h k
-  item_step c h (declare (x ∷ more)) k = declare_item c h x.name.name x.slot x.first more k
+  item_step c h (declare (x ∷ more)) k = declare_item c h x.name.name (extent_of x.slot) x.first more k
   item_step c h (assign x) k = when_value c.hand (λ v. write_step c h (top c.calls) x 0 None v k)
   item_step c h (update x o) k = when_value c.hand (λ v. write_step c h (top c.calls) x 0 (Some o) v k)
   item_step c h (locate a o e) k = when_value c.hand (λ v. when_slice c h a (λ r.

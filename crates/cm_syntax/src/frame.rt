@@ -8,7 +8,7 @@ ghost use Rattle.cm_syntax.specs.Limit.{max_frame_words};
 ghost use Rattle.cm_syntax.specs.declared.expr.Expr.TheVariants as expression;
 
 use crate::expr::{Arg, Call, Expr, Op};
-use crate::stmt::{Function, Item, Slot, Stmt, Target};
+use crate::stmt::{Extent, Function, Item, Slot, Stmt, Target};
 
 /// The words of the greatest frame.
 const MAX_FRAME_WORDS: u32 = 32_768;
@@ -67,14 +67,14 @@ pub fn checked_slots_words(slots: &[Slot], limit: u32) -> Option<u32>
     if words <= limit { Some(words) } else { None }
 }
 
-/// The words of a slot.
-fn slot_words(slot: Slot) -> u32
+/// The words of a slot. It takes no memory.
+pub fn slot_words(slot: Slot) -> u32
     ensures { result ≡ frame.slot_words slot }
 {
-    match slot {
-        Slot::Scalar => 1,
-        Slot::Array(words) => words,
-        Slot::Slice => 2,
+    match slot.extent() {
+        Extent::Word => 1,
+        Extent::Words(words) => words,
+        Extent::Reference => 2,
     }
 }
 

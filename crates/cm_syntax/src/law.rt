@@ -1,7 +1,7 @@
 //! Laws of the definitions, and single texts worked out by hand with which they have to agree. The functions do
 //! nothing: their contracts are the laws.
 
-ghost use Rattle.std.specs.Prelude.{◌≡◌, ◌≤◌, ◌<◌, ◌⊎◌, ◌++◌, [], ◌∷◌, ℕ, List, Bool, pos, neg_ℤ, length, codes, map, replicate, slice_get, Some, None};
+ghost use Rattle.std.specs.Prelude.{◌≡◌, ◌≤◌, ◌<◌, ◌⊎◌, ◌++◌, [], ◌∷◌, ℕ, List, Bool, pos, length, codes, map, replicate, slice_get, Some, None};
 ghost use Rattle.cm_syntax.specs.declared.name.Name.{Name};
 ghost use Rattle.cm_syntax.specs.declared.expr.Expr.{Expr};
 ghost use Rattle.cm_syntax.specs.declared.expr.Expr.TheVariants as expression;
@@ -20,7 +20,7 @@ ghost use Rattle.cm_syntax.specs.ParseTree as grammar;
 ghost use Rattle.cm_syntax.specs.Yield.{CountedToken, program_tokens, located_tokens};
 ghost use Rattle.cm_syntax.specs.Grammar.{IsExpression, IsPrimary, IsArgument, IsCall, IsItem, AreItems, IsDeclaration, IsTarget, IsSimple, IsPlain, AreStatements, IsStatement, IsBlock, IsParameter, AreParameters, IsFunction, Parses, IsSourceOf};
 ghost use Rattle.cm_syntax.specs.Refusal.{Syntax, Size, Refusal, IsAnswer, HasNoRefusal, IsSoundTree};
-ghost use Rattle.cm_syntax.specs.Machine.{text_answer, IsAnswerTo};
+ghost use Rattle.cm_syntax.specs.Parser.{text_answer, IsAnswerTo};
 ghost use Rattle.cm_syntax.specs.Canonical.{canonical};
 ghost use Rattle.cm_syntax.specs.Offset.{without_offsets};
 ghost use Rattle.std.specs.List.{range_with_len};
@@ -31,7 +31,6 @@ ghost use Rattle.cm_syntax.specs.Fault.{Variant, fault_at, faults, frame_of, pro
 ghost use Rattle.cm_syntax.specs.Limit.{max_frame_words, max_functions, max_source_bytes};
 ghost use Rattle.cm_syntax.specs.declared.expr.Op.TheVariants as operators;
 ghost use Rattle.cm_syntax.specs.Shape.{Joined};
-ghost use Rattle.cm_syntax.specs.Expr.{operator_count, value_of};
 ghost use Rattle.cm_syntax.specs.Row.{AreSpelled, BindsTighter, GroupsLeft, IsAccepted, PrefixBindsTighter, literal, IsPrintedAs, HasBody, HasFaults, HasFrames, HasNumbers, UpdatesBy, ResolvesToSlot, IsSoundSource, loops};
 
 /// A text has exactly one list of tokens.
@@ -99,8 +98,8 @@ pub fn every_text_is_answered()
         → IsAnswer bytes refusal at → ⊥ }
 {}
 
-/// The answer that the machine gives to the tokens of a text is the text's answer.
-pub fn answers_of_machine()
+/// The answer that the parser gives to the tokens of a text is the text's answer.
+pub fn answers_of_parser()
     ensures { (bytes : List ℕ) (tokens : List LocatedToken) → Tokens 0 bytes tokens
         → IsAnswerTo bytes (text_answer tokens (length bytes)) }
 {}
@@ -479,15 +478,8 @@ pub fn sound_sources()
         (codes "cilk int g(int a[]) { return len(a); } cilk int main() { int x, b[3]; x = spawn g(b); sync; return x; }") }
 {}
 
-/// The values of some expressions of literals, and how many temporaries they use: a sum and a product wrap, operators
-/// group to the left, and a right operand has one temporary more in use than a left one.
-pub fn values_of_expressions()
-    ensures sum_wraps { value_of (Joined operators.Add (literal 2147483647) (literal 1)) ≡ Some (neg_ℤ (pos 2147483648)) }
-    ensures product_wraps { value_of (Joined operators.Mul (literal 65536) (literal 65536)) ≡ Some (pos 0) }
-    ensures sum { value_of (Joined operators.Add (literal 2) (Joined operators.Mul (literal 3) (literal 4))) ≡ Some (pos 14) }
-    ensures difference { value_of (Joined operators.Sub (literal 2) (Joined operators.Mul (literal 3) (literal 4))) ≡ Some (neg_ℤ (pos 10)) }
-    ensures left { value_of (Joined operators.Sub (Joined operators.Sub (literal 1) (literal 2)) (literal 3)) ≡ Some (neg_ℤ (pos 4)) }
-    ensures right_temporaries { frame.temporaries (Joined operators.Add (literal 2) (Joined operators.Mul (literal 3) (literal 4))) 0 ≡ 2 }
-    ensures left_temporaries { frame.temporaries (Joined operators.Add (Joined operators.Mul (literal 2) (literal 3)) (literal 4)) 0 ≡ 1 }
-    ensures operators { operator_count (Joined operators.Add (literal 2) (Joined operators.Mul (literal 3) (literal 4))) ≡ 2 }
+/// How many temporaries two expressions use: a right operand has one more in use than a left one.
+pub fn temporaries_of_expressions()
+    ensures right { frame.temporaries (Joined operators.Add (literal 2) (Joined operators.Mul (literal 3) (literal 4))) 0 ≡ 2 }
+    ensures left { frame.temporaries (Joined operators.Add (Joined operators.Mul (literal 2) (literal 3)) (literal 4)) 0 ≡ 1 }
 {}

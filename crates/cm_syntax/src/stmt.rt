@@ -1,5 +1,8 @@
 //! Statements, and the functions that they make up.
 
+ghost use Rattle.std.specs.Prelude.{◌≡◌};
+ghost use Rattle.cm_syntax.specs.Extent.{extent_of};
+
 use crate::expr::{Call, Expr, Mark, Op};
 use crate::name::Name;
 use cm_text::List;
@@ -14,6 +17,30 @@ pub enum Slot {
     Array(u32),
     /// An address and a length, two words.
     Slice,
+}
+
+/// What a slot has, however it was declared. Frames, the meaning and the code ask for this alone.
+#[derive(Clone, Copy, Debug, PartialEq, Eq)]
+pub enum Extent {
+    /// One word of its own.
+    Word,
+    /// So many words of its own.
+    Words(u32),
+    /// A reference to words elsewhere: an address and a length, two words.
+    Reference,
+}
+
+impl Slot {
+    /// What a slot of this kind has.
+    pub fn extent(self) -> Extent
+        ensures { result ≡ extent_of self }
+    {
+        match self {
+            Slot::Scalar => Extent::Word,
+            Slot::Array(words) => Extent::Words(words),
+            Slot::Slice => Extent::Reference,
+        }
+    }
 }
 
 /// A variable that is declared, or a parameter.

@@ -23,7 +23,8 @@ use Rattle.cm_syntax.specs.Resolution.{Variable, Scope, lookup, hide, inner_scop
 
 -- ---- each of a list's elements
 
-abbrev Each : {A : Type 0} → (A → Type 0) → List A → Type 0
+-- each element has the property
+abbrev pub Each : {A : Type 0} → (A → Type 0) → List A → Type 0
 Each P [] = ⊤
 Each P (x ∷ xs) = P x × Each P xs
 
@@ -36,7 +37,8 @@ Each-at P [] i x h e = absurd (cc)
 Each-at P (y ∷ xs) zero x h e = let same : y ≡ x = cc in subst P same h.0
 Each-at P (y ∷ xs) (suc i) x h e = Each-at P xs i x h.1 e
 
-get_behind : (before : List Slot) (kind : Slot) (rest : List Slot) → slice_get (before ++ kind ∷ rest) (length before) ≡ Some kind
+-- the slot that stands behind those before it
+pub get_behind : (before : List Slot) (kind : Slot) (rest : List Slot) → slice_get (before ++ kind ∷ rest) (length before) ≡ Some kind
 get_behind [] kind rest = refl
 get_behind (k ∷ before) kind rest = get_behind before kind rest
 

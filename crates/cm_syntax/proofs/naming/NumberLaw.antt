@@ -20,6 +20,7 @@ use Rattle.cm_syntax.specs.Shape.{Joined, Prefixed, Element, InputAt, IfAlone, I
 use Rattle.cm_syntax.specs.Text.{is_same}
 use Rattle.cm_syntax.specs.Resolution.{Variable, Scope, Role, lookup, inner_scope, function_scope, declare_name, declare_items, split_scope, slot_count, slots_count, reserve_slots, scope_after, statement_slots, body_slots, function_slots, ArgumentForm, value_form, slice_form, any_form, variable_form, Use, mention, redeclaration, parallel_keyword, expression_uses, arguments_uses, argument_uses, optional_uses, call_uses, target_uses, redeclaration_uses, items_uses, spawn_uses, statement_uses, statements_uses, body_uses, function_uses, variable_number, function_number, resolve_mark, resolve_bare, resolve_expression, resolve_arguments, resolve_argument, resolve_optional, resolve_call, resolve_target, resolve_items, resolve_statement, resolve_statements, resolve_body, resolve_function}
 use Rattle.cm_syntax.specs.Number.{expression_numbers, arguments_numbers, argument_numbers, optional_numbers, target_numbers, destination_numbers, items_numbers, statement_numbers, statements_numbers, body_numbers, function_numbers, declared_items, declared_statement, declared_statements, declared_body, declared_numbers, use_numbers, uses_numbers}
+use Rattle.cm_syntax.proofs.Rows.{row_of_block, row_of_call}
 use Rattle.cm_syntax.proofs.StatementLaw.{If-Alone, If-Else, While-Loop, For-Loop}
 use Rattle.cm_syntax.proofs.naming.NameLaw.{slots_counted}
 
@@ -34,10 +35,6 @@ row_numbers : (n : _) (row : Row_of-Arg ℕ n) → arguments_numbers row ≡ lis
 row_numbers n end_of-Arg = refl
 row_numbers n (more_of-Arg first more) = ap (λ t. argument_numbers first ++ t) (row_numbers _ more)
 
-abbrev row_of_call : Expr ℕ → (n : _) × Row_of-Arg ℕ n
-row_of_call (expression.Call' _ _ row) = (_, row)
-row_of_call _ = (_, end_of-Arg)
-
 numbers-Call : (call : Call ℕ) → expression_numbers (expression.Call call) ≡ call.function.name ∷ list_numbers call.arguments
 numbers-Call call =
     let row = row_of_call (expression.Call call) in
@@ -50,11 +47,6 @@ block_numbers n (more_of-Stmt first more) = ap (λ t. statement_numbers first ++
 block_declares : (n : _) (row : Row_of-Stmt ℕ n) → declared_statements row ≡ declared_body (items-the_row-Stmt ℕ n row)
 block_declares n end_of-Stmt = refl
 block_declares n (more_of-Stmt first more) = ap (λ t. declared_statement first ++ t) (block_declares _ more)
-
-abbrev row_of_block : Stmt ℕ → (n : _) × Row_of-Stmt ℕ n
-row_of_block (statement.Block' _ row) = (_, row)
-row_of_block (statement.Split' _ _ _ _ _ row _) = (_, row)
-row_of_block _ = (_, end_of-Stmt)
 
 numbers-Block : (body : List (Stmt ℕ)) → statement_numbers (statement.Block body) ≡ body_numbers body
 numbers-Block body =

@@ -13,15 +13,18 @@ use Rattle.cm_syntax.specs.Text.{is_same}
 use Rattle.cm_syntax.specs.Limit.{max_frame_words, max_functions, max_parameter_words}
 use Rattle.cm_syntax.specs.Fault.{Variant, twice, kind, frame, count, parameter_slots, is_wrong_main, fault_where, use_faults, is_faulty_mention, temporaries_of, frame_of, function_faults, functions_faults, faults, program_of, IsSoundFunction}
 
-nothing_first : {A : Type 0} (a b : List A) → a ++ b ≡ [] → a ≡ []
+-- a list that is empty has an empty front
+pub nothing_first : {A : Type 0} (a b : List A) → a ++ b ≡ [] → a ≡ []
 nothing_first [] b e = refl
 nothing_first (x ∷ a) b e = cc
 
-nothing_second : {A : Type 0} (a b : List A) → a ++ b ≡ [] → b ≡ []
+-- and an empty rest
+pub nothing_second : {A : Type 0} (a b : List A) → a ++ b ≡ [] → b ≡ []
 nothing_second [] b e = e
 nothing_second (x ∷ a) b e = cc
 
-no_fault : (is_faulty : Bool) (at : ℕ) (v : Variant) → fault_where is_faulty at v ≡ [] → is_faulty ≡ false
+-- where no fault is noted there is none
+pub no_fault : (is_faulty : Bool) (at : ℕ) (v : Variant) → fault_where is_faulty at v ≡ [] → is_faulty ≡ false
 no_fault true at v e = cc
 no_fault false at v e = refl
 

@@ -9,9 +9,9 @@ use Rattle.cm_syntax.specs.Yield.{Quantity, CountedToken, nothing, depth, operat
 use Rattle.cm_syntax.specs.Lowering.{lower_program}
 use Rattle.cm_syntax.specs.Refusal.{IsTooMuch, Refusal, IsRefused}
 use Rattle.cm_syntax.specs.Limit.{max_literal, max_array_words}
-use Rattle.cm_syntax.specs.Machine.{State, goes, stops, step, start}
-use Rattle.cm_syntax.proofs.machine.TokenStep.{CountsNumber, number_counted, unfit_stops}
-use Rattle.cm_syntax.proofs.machine.takes.Reached.{Reached, program_reached}
+use Rattle.cm_syntax.specs.Parser.{State, goes, stops, step, start}
+use Rattle.cm_syntax.proofs.parser.TokenStep.{CountsNumber, number_counted, unfit_stops}
+use Rattle.cm_syntax.proofs.parser.takes.Reached.{Reached, program_reached}
 use Rattle.cm_syntax.proofs.printing.Laying.{Writable, AllWritable}
 use Rattle.cm_syntax.proofs.YieldLaw.{located-append}
 

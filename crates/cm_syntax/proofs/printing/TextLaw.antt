@@ -19,6 +19,7 @@ use Rattle.cm_syntax.specs.ParseTree.{level_of}
 use Rattle.cm_syntax.specs.Yield.{sign_of}
 use Rattle.cm_syntax.specs.Canonical.{word_token, sign_token, name_token, own_level, parenthesize, expression_text, arguments_text, argument_text, optional_text, simple_text, condition_text, statement_text, statements_text, body_text, target_text}
 use Rattle.cm_syntax.specs.Offset.{bare, bare_expression, bare_row, bare_argument, bare_call, bare_statement, bare_statements}
+use Rattle.cm_syntax.proofs.Rows.{row_of_block, row_of_call}
 use Rattle.cm_syntax.proofs.StatementLaw.{If-Alone, If-Else, While-Loop, For-Loop}
 
 -- ---- expressions
@@ -93,10 +94,6 @@ row_bare : (n : _) (row : Row_of-Arg Name n) → bare_row row ≡ map bare_argum
 row_bare n end_of-Arg = refl
 row_bare n (more_of-Arg first more) = ap (λ t. bare_argument first ∷ t) (row_bare _ more)
 
-abbrev row_of_call : Expr Name → (n : _) × Row_of-Arg Name n
-row_of_call (expression.Call' _ _ row) = (_, row)
-row_of_call _ = (_, end_of-Arg)
-
 pub text-Call : (call : Call Name) → expression_text (expression.Call call) ≡
     name_token call.function ∷ sign_token sign.ParenOpen ∷ (listed call.arguments ++ sign_token sign.ParenClose ∷ [])
 text-Call call =
@@ -152,11 +149,6 @@ block_text n (more_of-Stmt first more) = ap (λ t. statement_text first ++ t) (b
 block_bare : (n : _) (row : Row_of-Stmt Name n) → bare_statements row ≡ map bare_statement (items-the_row-Stmt Name n row)
 block_bare n end_of-Stmt = refl
 block_bare n (more_of-Stmt first more) = ap (λ t. bare_statement first ∷ t) (block_bare _ more)
-
-abbrev row_of_block : Stmt Name → (n : _) × Row_of-Stmt Name n
-row_of_block (statement.Block' _ row) = (_, row)
-row_of_block (statement.Split' _ _ _ _ _ row _) = (_, row)
-row_of_block _ = (_, end_of-Stmt)
 
 pub text-Block : (body : List (Stmt Name)) → statement_text (statement.Block body) ≡
     sign_token sign.BraceOpen ∷ (body_text body ++ sign_token sign.BraceClose ∷ [])

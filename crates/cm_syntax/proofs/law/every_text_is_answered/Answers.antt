@@ -2,8 +2,8 @@ use Rattle.std.proofs.Common.{◌⊎◌, inl, inr, ℕ, List, length}
 use Rattle.cm_syntax.specs.declared.stmt.Tree.{Tree}
 use Rattle.cm_syntax.specs.Grammar.{IsSourceOf}
 use Rattle.cm_syntax.specs.Refusal.{Refusal, IsAnswer, HasNoRefusal}
-use Rattle.cm_syntax.specs.Machine.{Answer, accepted, refused, IsAnswerTo}
-use Rattle.cm_syntax.proofs.machine.SourceText.{answer_to, answered}
+use Rattle.cm_syntax.specs.Parser.{Answer, accepted, refused, IsAnswerTo}
+use Rattle.cm_syntax.proofs.parser.SourceText.{answer_to, answered}
 use Rattle.cm_syntax.proofs.law.every_text_is_answered.Goals as goal
 
 by_answer : (bytes : List ℕ) (answer : Answer) → IsAnswerTo bytes answer → ((tree : Tree) × IsSourceOf bytes tree × HasNoRefusal bytes) ⊎ ((refusal : Refusal) × (at : ℕ) × IsAnswer bytes refusal at)

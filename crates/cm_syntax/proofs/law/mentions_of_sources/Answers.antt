@@ -3,7 +3,7 @@ use Rattle.std.specs.Prelude.{codes}
 use Rattle.std.specs.Fmt.{digits}
 use Rattle.cm_syntax.specs.declared.stmt.Slot.TheVariants as slot
 use Rattle.cm_syntax.specs.Resolution.{Role}
-use Rattle.cm_syntax.proofs.machine.SourceText.{resolves}
+use Rattle.cm_syntax.proofs.parser.SourceText.{resolves}
 use Rattle.cm_syntax.proofs.law.mentions_of_sources.Goals as goal
 
 pub returns-clause-split_whole : goal.returns-clause-split_whole

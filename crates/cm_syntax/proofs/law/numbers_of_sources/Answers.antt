@@ -1,6 +1,6 @@
 use Rattle.std.proofs.Common.{refl}
 use Rattle.std.specs.Fmt.{digits}
-use Rattle.cm_syntax.proofs.machine.SourceText.{has_numbers}
+use Rattle.cm_syntax.proofs.parser.SourceText.{has_numbers}
 use Rattle.cm_syntax.proofs.law.numbers_of_sources.Goals as goal
 
 pub returns-clause-called_before : goal.returns-clause-called_before

@@ -1,4 +1,4 @@
-use Rattle.cm_syntax.proofs.machine.takes.Reached.{one_count}
+use Rattle.cm_syntax.proofs.parser.takes.Reached.{one_count}
 use Rattle.cm_syntax.proofs.law.one_count.Goals as goal
 
 pub returns : goal.returns

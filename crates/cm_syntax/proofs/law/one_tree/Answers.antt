@@ -1,4 +1,4 @@
-use Rattle.cm_syntax.proofs.machine.trace.OneTree.{Parses-one, IsSourceOf-one}
+use Rattle.cm_syntax.proofs.parser.trace.OneTree.{Parses-one, IsSourceOf-one}
 use Rattle.cm_syntax.proofs.law.one_tree.Goals as goal
 
 pub returns-clause-tokens : goal.returns-clause-tokens

@@ -1,5 +1,5 @@
 use Rattle.std.proofs.Common.{refl}
-use Rattle.cm_syntax.proofs.machine.SourceText.{is_refused}
+use Rattle.cm_syntax.proofs.parser.SourceText.{is_refused}
 use Rattle.cm_syntax.proofs.law.refused_bodies.Goals as goal
 
 pub returns-clause-no_value : goal.returns-clause-no_value

@@ -1,5 +1,5 @@
 use Rattle.std.proofs.Common.{refl, inr}
-use Rattle.cm_syntax.proofs.machine.SourceText.{is_refused}
+use Rattle.cm_syntax.proofs.parser.SourceText.{is_refused}
 use Rattle.cm_syntax.proofs.law.refused_sources.Goals as goal
 
 pub returns-clause-empty : goal.returns-clause-empty

@@ -1,6 +1,6 @@
 use Rattle.std.proofs.Common.{refl}
 use Rattle.std.specs.Fmt.{digits}
-use Rattle.cm_syntax.proofs.machine.SourceText.{is_sound}
+use Rattle.cm_syntax.proofs.parser.SourceText.{is_sound}
 use Rattle.cm_syntax.proofs.law.sound_sources.Goals as goal
 
 pub returns-clause-fourteen : goal.returns-clause-fourteen

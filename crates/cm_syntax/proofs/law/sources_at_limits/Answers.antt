@@ -1,4 +1,4 @@
-use Rattle.cm_syntax.proofs.machine.SourceText.{is_accepted}
+use Rattle.cm_syntax.proofs.parser.SourceText.{is_accepted}
 use Rattle.cm_syntax.proofs.law.sources_at_limits.Goals as goal
 
 pub returns-clause-deepest_loop : goal.returns-clause-deepest_loop

@@ -1,4 +1,4 @@
-use Rattle.cm_syntax.proofs.machine.SourceText.{tokens_of}
+use Rattle.cm_syntax.proofs.parser.SourceText.{tokens_of}
 use Rattle.cm_syntax.proofs.law.tokens_of_texts.Goals as goal
 
 pub returns-clause-longest : goal.returns-clause-longest

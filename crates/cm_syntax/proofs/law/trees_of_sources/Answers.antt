@@ -1,6 +1,6 @@
 use Rattle.std.proofs.Common.{refl}
 use Rattle.std.specs.Fmt.{digits}
-use Rattle.cm_syntax.proofs.machine.SourceText.{has_tree, has_function}
+use Rattle.cm_syntax.proofs.parser.SourceText.{has_tree, has_function}
 use Rattle.cm_syntax.proofs.law.trees_of_sources.Goals as goal
 
 pub returns-clause-nearest_else : goal.returns-clause-nearest_else

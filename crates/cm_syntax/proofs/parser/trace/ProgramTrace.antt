@@ -11,9 +11,9 @@ use Rattle.cm_syntax.specs.ParseTree.{Offset, Parameter, ParameterList, Paramete
 use Rattle.cm_syntax.specs.ParseTree as grammar
 use Rattle.cm_syntax.specs.Yield.{CountedToken, word_at, sign_at, name_at, statements_tokens, parameter_tokens, parameter_list_tokens, parameters_tokens, cilk_tokens, function_tokens, program_tokens}
 use Rattle.cm_syntax.specs.Lowering.{lower_statements, lower_parameter, lower_parameter_list, lower_parameters, lower_function, lower_program}
-use Rattle.cm_syntax.specs.Machine.{State, on, step, parameter, function_of, function_step, is_sign}
-use Rattle.cm_syntax.proofs.machine.trace.Trace.{Leads, none, one, both, passes}
-use Rattle.cm_syntax.proofs.machine.trace.StatementTrace.{statements_lead}
+use Rattle.cm_syntax.specs.Parser.{State, on, step, parameter, function_of, function_step, is_sign}
+use Rattle.cm_syntax.proofs.parser.trace.Trace.{Leads, none, one, both, passes}
+use Rattle.cm_syntax.proofs.parser.trace.StatementTrace.{statements_lead}
 
 -- ---- functions
 

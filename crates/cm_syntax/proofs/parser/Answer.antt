@@ -10,13 +10,13 @@ use Rattle.cm_syntax.specs.Yield.{CountedToken, located_tokens}
 use Rattle.cm_syntax.specs.Lowering.{lower_program}
 use Rattle.cm_syntax.specs.Grammar.{Parses}
 use Rattle.cm_syntax.specs.Refusal.{StopsAtToken, StopsAtEnd, Exceeds, IsTooMuch, IsTooNested, Size, Refusal, IsRefused, IsAnswer}
-use Rattle.cm_syntax.specs.Machine.{State, goes, stops, step, finish, start, readable, Answer, IsAnswerTo, accepted, refused, end_answer, text_answer}
+use Rattle.cm_syntax.specs.Parser.{State, goes, stops, step, finish, start, readable, Answer, IsAnswerTo, accepted, refused, end_answer, text_answer}
 use Rattle.cm_syntax.proofs.lexing.TokenLaw.{Tokens-one}
 use Rattle.cm_syntax.proofs.refusing.RefusalLaw.{token_in_front, stops_before, Syntax-one}
 use Rattle.cm_syntax.proofs.YieldLaw.{regroup, located-append, length-located}
 use Rattle.cm_syntax.proofs.OffsetLaw.{Ascend, ascend_to, tokens_ascend, offset_below, offset_order, exceeds_begins, not_later}
-use Rattle.cm_syntax.proofs.machine.takes.Reached.{Reached, reached_on, reached_parts, same_front, same_counts, program_reached, begins_program, no_further, parses, is_no_program}
-use Rattle.cm_syntax.proofs.machine.Run.{AllWithin, within_at, Outcome, outcome}
+use Rattle.cm_syntax.proofs.parser.takes.Reached.{Reached, reached_on, reached_parts, same_front, same_counts, program_reached, begins_program, no_further, parses, is_no_program}
+use Rattle.cm_syntax.proofs.parser.Run.{AllWithin, within_at, Outcome, outcome}
 
 module _ (bytes : List ℕ) (front : List CountedToken) (behind : List LocatedToken) (read : Tokens 0 bytes (located_tokens front ++ behind)) (last : State) (reached : Reached start front last) where
   -- no limit is passed at a token in front

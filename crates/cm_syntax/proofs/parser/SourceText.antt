@@ -12,10 +12,10 @@ use Rattle.cm_syntax.specs.Resolution.{Variable, ResolvesTo}
 use Rattle.cm_syntax.specs.Number.{function_numbers}
 use Rattle.cm_syntax.specs.Fault.{faults, program_of}
 use Rattle.cm_syntax.specs.Row.{HasFunctions, IsAccepted, HasNumbers, ResolvesToSlot, IsSoundSource}
-use Rattle.cm_syntax.specs.Machine.{Answer, accepted, refused, text_answer, IsAnswerTo}
+use Rattle.cm_syntax.specs.Parser.{Answer, accepted, refused, text_answer, IsAnswerTo}
 use Rattle.cm_syntax.specs.Lexer.{lexed}
 use Rattle.cm_syntax.proofs.lexing.Lexing.{lexed_tokens}
-use Rattle.cm_syntax.proofs.machine.Answer.{text_answered}
+use Rattle.cm_syntax.proofs.parser.Answer.{text_answered}
 
 -- the tokens of a text
 pub tokens_of : (bytes : List ℕ) → Tokens 0 bytes (lexed (length bytes) 0 bytes)

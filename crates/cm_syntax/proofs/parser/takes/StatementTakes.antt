@@ -18,10 +18,10 @@ use Rattle.cm_syntax.specs.Token.{Token, LocatedToken, token_at}
 use Rattle.cm_syntax.specs.ParseTree.{Mark, Offset, is_update, AnyExpression, Declaration, Simple, FirstPart, Plain, Statements}
 use Rattle.cm_syntax.specs.ParseTree as grammar
 use Rattle.cm_syntax.specs.Yield.{Quantity, update_sign}
-use Rattle.cm_syntax.specs.Machine.{State, step, is_sign, call_of, item, declarator, declaration, words_step, count_on, pointee, target_step, update_step, writing_step, simple_name_step, simple_step}
-use Rattle.cm_syntax.proofs.machine.takes.Written.{sign_then, word_then, name_then, call_then, any_then, item_then, items_then, declaration_then, target_then, simple_then, first_part_then, last_part_then}
-use Rattle.cm_syntax.proofs.machine.takes.Wanted.{Begins, begins, Closed, closed_then, FirstArguments, first_arguments_then, ItemName, item_name_then, Words, MoreItems, more_items_then, TargetName, target_name_then, Writing, writing_then, SimpleName, simple_name_then, Continues}
-use Rattle.cm_syntax.proofs.machine.takes.ExpressionTakes.{Enters, by_either, by_sign, by_word, BehindValue, value_begins, closed_begins}
+use Rattle.cm_syntax.specs.Parser.{State, step, is_sign, call_of, item, declarator, declaration, words_step, count_on, pointee, target_step, update_step, writing_step, simple_name_step, simple_step}
+use Rattle.cm_syntax.proofs.parser.takes.Written.{sign_then, word_then, name_then, call_then, any_then, item_then, items_then, declaration_then, target_then, simple_then, first_part_then, last_part_then}
+use Rattle.cm_syntax.proofs.parser.takes.Wanted.{Begins, begins, Closed, closed_then, FirstArguments, first_arguments_then, ItemName, item_name_then, Words, MoreItems, more_items_then, TargetName, target_name_then, Writing, writing_then, SimpleName, simple_name_then, Continues}
+use Rattle.cm_syntax.proofs.parser.takes.ExpressionTakes.{Enters, by_either, by_sign, by_word, BehindValue, value_begins, closed_begins}
 
 -- behind a statement a continuation goes on
 abbrev pub BehindStatement : (Stmt Name → State) → List LocatedToken → Type 0

@@ -18,10 +18,10 @@ use Rattle.cm_syntax.specs.ParseTree as grammar
 use Rattle.cm_syntax.specs.Yield.{CountedToken, operators, sign_at, sign_of, operators_of, expression_tokens, any_tokens, call_tokens, arguments_tokens, argument_tokens}
 use Rattle.cm_syntax.specs.Lowering.{lower_expression, lower_any, lower_call, lower_arguments, lower_argument}
 use Rattle.cm_syntax.specs.Refusal.{is_opening}
-use Rattle.cm_syntax.specs.Machine.{State, goes, step, whole, value, call, call_of, operator_of, operator_step, operand_step, prefix_step}
+use Rattle.cm_syntax.specs.Parser.{State, goes, step, whole, value, call, call_of, operator_of, operator_step, operand_step, prefix_step}
 use Rattle.cm_syntax.proofs.YieldLaw.{regroup}
-use Rattle.cm_syntax.proofs.machine.trace.Trace.{Leads, none, one, both, passes, left}
-use Rattle.cm_syntax.proofs.machine.trace.Front.{begins_value, other_sign, by_front, expression_begins}
+use Rattle.cm_syntax.proofs.parser.trace.Trace.{Leads, none, one, both, passes, left}
+use Rattle.cm_syntax.proofs.parser.trace.Front.{begins_value, other_sign, by_front, expression_begins}
 
 -- ---- operators
 

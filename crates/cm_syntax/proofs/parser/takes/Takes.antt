@@ -14,12 +14,12 @@ use Rattle.cm_syntax.specs.declared.token.Sign.TheVariants as sign
 use Rattle.cm_syntax.specs.Token.{Token, LocatedToken, token_at}
 use Rattle.cm_syntax.specs.ParseTree.{Mark, Offset, Parameter, ParameterList, Parameters}
 use Rattle.cm_syntax.specs.ParseTree as grammar
-use Rattle.cm_syntax.specs.Machine.{State, step, finish, item, parameter, parameter_step, function_of, type_step, function_step}
-use Rattle.cm_syntax.proofs.machine.takes.Written.{sign_then, word_then, parameter_then, parameter_list_then, cilk_then, function_then}
-use Rattle.cm_syntax.proofs.machine.takes.Wanted.{Begins, begins, Tail, OperandName, ItemName, MoreItems, TargetName, Otherwise, Block, Declarator, declarator_then, ParameterName, parameter_name_then, FirstParameters, first_parameters_then, MoreParameters, more_parameters_then, ReturnType, Functions, Continues}
-use Rattle.cm_syntax.proofs.machine.takes.ExpressionTakes.{Enters, by_sign, by_word, operand_takes, operand_name_takes, operators_take, name_takes, argument_takes, first_argument_takes, more_arguments_take, optional_takes}
-use Rattle.cm_syntax.proofs.machine.takes.StatementTakes.{BehindItem, BehindItems, words_take, item_name_takes, more_items_take, target_takes, target_name_takes, writing_takes, simple_takes, simple_name_takes, first_part_takes, last_part_takes}
-use Rattle.cm_syntax.proofs.machine.takes.PlainTakes.{plain_takes, destination_takes, plain_name_takes, otherwise_takes, statements_take}
+use Rattle.cm_syntax.specs.Parser.{State, step, finish, item, parameter, parameter_step, function_of, type_step, function_step}
+use Rattle.cm_syntax.proofs.parser.takes.Written.{sign_then, word_then, parameter_then, parameter_list_then, cilk_then, function_then}
+use Rattle.cm_syntax.proofs.parser.takes.Wanted.{Begins, begins, Tail, OperandName, ItemName, MoreItems, TargetName, Otherwise, Block, Declarator, declarator_then, ParameterName, parameter_name_then, FirstParameters, first_parameters_then, MoreParameters, more_parameters_then, ReturnType, Functions, Continues}
+use Rattle.cm_syntax.proofs.parser.takes.ExpressionTakes.{Enters, by_sign, by_word, operand_takes, operand_name_takes, operators_take, name_takes, argument_takes, first_argument_takes, more_arguments_take, optional_takes}
+use Rattle.cm_syntax.proofs.parser.takes.StatementTakes.{BehindItem, BehindItems, words_take, item_name_takes, more_items_take, target_takes, target_name_takes, writing_takes, simple_takes, simple_name_takes, first_part_takes, last_part_takes}
+use Rattle.cm_syntax.proofs.parser.takes.PlainTakes.{plain_takes, destination_takes, plain_name_takes, otherwise_takes, statements_take}
 
 -- ---- parameters
 

@@ -3,13 +3,13 @@ use Rattle.std.proofs.Common.{◌≡◌, ℕ, ◌+◌, ◌-◌, ◌<◌, Bool, t
 use Rattle.std.specs.Prelude.{⊤, nat_lt, map, if◌then◌else◌}
 use Rattle.std.proofs.lemmas.Bool.{ltb-true}
 use Rattle.std.proofs.lemmas.Bool.Decides.{nat_tests}
-use Rattle.cm_syntax.proofs.machine.TokenStep.{CountsNumber, AlikeNumbers, alike_numbers}
+use Rattle.cm_syntax.proofs.parser.TokenStep.{CountsNumber, AlikeNumbers, alike_numbers}
 use Rattle.cm_syntax.specs.Limit.{max_literal, max_source_bytes, max_open_brackets}
 use Rattle.cm_syntax.specs.Token.{Token, LocatedToken, token_at}
 use Rattle.cm_syntax.specs.ParseTree.{Offset}
 use Rattle.cm_syntax.specs.Yield.{Quantity}
 use Rattle.cm_syntax.specs.Refusal.{is_opening, is_closing}
-use Rattle.cm_syntax.specs.Machine.{State, Next, goes, stops, step, is_within, Answer, token_answer, run, nested_tokens, readable, capped, capped_token, start, text_answer}
+use Rattle.cm_syntax.specs.Parser.{State, Next, goes, stops, step, is_within, Answer, token_answer, run, nested_tokens, readable, capped, capped_token, start, text_answer}
 
 -- both aren't wanted, or what is counted at both is beyond its limit
 abbrev pub BothRefused : Next → Next → Type 0

@@ -8,7 +8,7 @@ use Rattle.cm_syntax.specs.declared.stmt.Target.TheVariants as target
 use Rattle.cm_syntax.specs.Token.{Token}
 use Rattle.cm_syntax.specs.ParseTree.{Offset}
 use Rattle.cm_syntax.specs.Yield.{Quantity}
-use Rattle.cm_syntax.specs.Machine.{State, Next, goes, stops, step, item}
+use Rattle.cm_syntax.specs.Parser.{State, Next, goes, stops, step, item}
 
 -- the number is counted, as a literal or as the words of an array
 abbrev pub CountsNumber : ℕ → Quantity → Type 0

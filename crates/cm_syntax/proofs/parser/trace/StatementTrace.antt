@@ -17,11 +17,11 @@ use Rattle.cm_syntax.specs.ParseTree.{Mark, Offset, is_update, AnyExpression, De
 use Rattle.cm_syntax.specs.ParseTree as grammar
 use Rattle.cm_syntax.specs.Yield.{Quantity, CountedToken, depth, sign_at, update_sign, any_tokens, optional_tokens, call_tokens, item_tokens, items_tokens, declaration_tokens, target_tokens, simple_tokens, first_part_tokens, last_part_tokens, plain_tokens, statements_tokens, located_tokens}
 use Rattle.cm_syntax.specs.Lowering.{lower_optional, lower_call, lower_item, lower_items, lower_declaration, lower_target, lower_simple, lower_first_part, lower_last_part, lower_plain, lower_statements}
-use Rattle.cm_syntax.specs.Machine.{State, goes, step, value, declarator, declaration, with_semicolon, spawned, writing_step, is_sign}
+use Rattle.cm_syntax.specs.Parser.{State, goes, step, value, declarator, declaration, with_semicolon, spawned, writing_step, is_sign}
 use Rattle.cm_syntax.proofs.YieldLaw.{regroup}
-use Rattle.cm_syntax.proofs.machine.trace.Trace.{Leads, trace, took, none, one, both, passes, left, alike}
-use Rattle.cm_syntax.proofs.machine.trace.Front.{begins_value, begins_simple, begins_plain, begins_with, other_sign, other_word, by_front, trace_alike, any_begins, simple_begins, plain_begins, no_else, statements_no_else}
-use Rattle.cm_syntax.proofs.machine.trace.ExpressionTrace.{Ends, paren_ends, bracket_ends, comma_ends, semicolon_ends, as_ends, any_leads, call_leads, named_call_leads}
+use Rattle.cm_syntax.proofs.parser.trace.Trace.{Leads, trace, took, none, one, both, passes, left, alike}
+use Rattle.cm_syntax.proofs.parser.trace.Front.{begins_value, begins_simple, begins_plain, begins_with, other_sign, other_word, by_front, trace_alike, any_begins, simple_begins, plain_begins, no_else, statements_no_else}
+use Rattle.cm_syntax.proofs.parser.trace.ExpressionTrace.{Ends, paren_ends, bracket_ends, comma_ends, semicolon_ends, as_ends, any_leads, call_leads, named_call_leads}
 
 -- ---- declarations
 

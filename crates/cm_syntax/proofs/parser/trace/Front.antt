@@ -12,11 +12,11 @@ use Rattle.cm_syntax.specs.Token.{Token, LocatedToken}
 use Rattle.cm_syntax.specs.ParseTree.{is_unary, Expression, AnyExpression, Simple, Plain, Statements, Offset}
 use Rattle.cm_syntax.specs.ParseTree as grammar
 use Rattle.cm_syntax.specs.Yield.{Quantity, CountedToken, counted_token, operators, sign_of, operators_of, expression_tokens, any_tokens, target_tokens, simple_tokens, plain_tokens, statements_tokens, sign_at, located_tokens}
-use Rattle.cm_syntax.specs.Machine.{State, step, is_sign, is_word}
+use Rattle.cm_syntax.specs.Parser.{State, step, is_sign, is_word}
 use Rattle.cm_syntax.specs.Lexer.{keyword_written, sign_written}
 use Rattle.cm_syntax.proofs.lexing.Spelling.{keyword_written-text, sign_written-text, is_same-equal}
 use Rattle.cm_syntax.proofs.YieldLaw.{regroup}
-use Rattle.cm_syntax.proofs.machine.trace.Trace.{trace, next_trace, Leads, alike}
+use Rattle.cm_syntax.proofs.parser.trace.Trace.{trace, next_trace, Leads, alike}
 
 -- ---- signs and words
 

@@ -9,13 +9,13 @@ use Rattle.cm_syntax.specs.Yield.{Quantity, CountedToken, program_tokens, locate
 use Rattle.cm_syntax.specs.Lowering.{lower_program}
 use Rattle.cm_syntax.specs.Grammar.{Parses}
 use Rattle.cm_syntax.specs.Refusal.{IsProgram, BeginsProgram}
-use Rattle.cm_syntax.specs.Machine.{State, Next, goes, stops, step, finish, start}
-use Rattle.cm_syntax.proofs.machine.trace.Trace.{took, over, next_trace, trace, taken}
-use Rattle.cm_syntax.proofs.machine.trace.OneTree.{program_traced, some_program}
-use Rattle.cm_syntax.proofs.machine.takes.Written.{program_same}
-use Rattle.cm_syntax.proofs.machine.takes.Wanted.{Functions, Continues, can_go_on}
-use Rattle.cm_syntax.proofs.machine.takes.ExpressionTakes.{Enters}
-use Rattle.cm_syntax.proofs.machine.takes.Takes.{takes, Ends, finishes}
+use Rattle.cm_syntax.specs.Parser.{State, Next, goes, stops, step, finish, start}
+use Rattle.cm_syntax.proofs.parser.trace.Trace.{took, over, next_trace, trace, taken}
+use Rattle.cm_syntax.proofs.parser.trace.OneTree.{program_traced, some_program}
+use Rattle.cm_syntax.proofs.parser.takes.Written.{program_same}
+use Rattle.cm_syntax.proofs.parser.takes.Wanted.{Functions, Continues, can_go_on}
+use Rattle.cm_syntax.proofs.parser.takes.ExpressionTakes.{Enters}
+use Rattle.cm_syntax.proofs.parser.takes.Takes.{takes, Ends, finishes}
 
 -- the machine comes from the first state to the last by these tokens, with what is counted at them
 abbrev pub Reached : State → List CountedToken → State → Type 0

@@ -1,5 +1,5 @@
--- A machine that takes tokens one by one. It is no definition of the language: that is the grammar (`ParseTree.antt`,
--- `Yield.antt`, `Refusal.antt`), with which the machine is proved to agree, so that the reader's code can be held to it
+-- The parser, a machine that takes tokens one by one. It is no definition of the language: that is the grammar (`ParseTree.antt`,
+-- `Yield.antt`, `Refusal.antt`), with which it is proved to agree, so that the reader's code can be held to it
 -- token by token. A state is what is wanted next, and a continuation what is wanted then, behind the tree of what was
 -- read. Where it takes one token more to see that a part has ended, the continuation takes this token. Some states, as
 -- `simple` and `function_next`, are a nonterminal of the code, to which no token leads.
@@ -379,7 +379,7 @@ function_step token k =
     if is_word keyword.Cilk token then on (State.return_type (λ gives. function_of true gives k))
     else type_step token (λ gives. function_of false gives k)
 
--- ---- the machine
+-- ---- the parser
 
 -- what a token does in a state
 abbrev pub step : State → Token → Offset → Next

@@ -17,11 +17,11 @@ use Rattle.cm_syntax.specs.Token.{Token, LocatedToken, token_at}
 use Rattle.cm_syntax.specs.ParseTree.{Mark, Offset, is_unary, level_of, Expression, Arguments, Argument, AnyExpression}
 use Rattle.cm_syntax.specs.ParseTree as grammar
 use Rattle.cm_syntax.specs.Yield.{Quantity, sign_of}
-use Rattle.cm_syntax.specs.Machine.{State, Next, goes, stops, step, is_sign, is_word, whole, value, operator_step, operand_step, value_step, argument_step, call_of, name_step}
-use Rattle.cm_syntax.proofs.machine.trace.Front.{sign_token, word_token}
-use Rattle.cm_syntax.proofs.machine.trace.ExpressionTrace.{level_bounds, unary_level}
-use Rattle.cm_syntax.proofs.machine.takes.Written.{sign_then, name_then, expression_then, argument_then, any_then}
-use Rattle.cm_syntax.proofs.machine.takes.Wanted.{Begins, begins, AtLeast, at_least_then, Tail, tail_then, Closed, closed_then, FirstArguments, first_arguments_then, NextArguments, next_arguments_then, MoreArguments, more_arguments_then, OperandName, operand_name_then, Continues}
+use Rattle.cm_syntax.specs.Parser.{State, Next, goes, stops, step, is_sign, is_word, whole, value, operator_step, operand_step, value_step, argument_step, call_of, name_step}
+use Rattle.cm_syntax.proofs.parser.trace.Front.{sign_token, word_token}
+use Rattle.cm_syntax.proofs.parser.trace.ExpressionTrace.{level_bounds, unary_level}
+use Rattle.cm_syntax.proofs.parser.takes.Written.{sign_then, name_then, expression_then, argument_then, any_then}
+use Rattle.cm_syntax.proofs.parser.takes.Wanted.{Begins, begins, AtLeast, at_least_then, Tail, tail_then, Closed, closed_then, FirstArguments, first_arguments_then, NextArguments, next_arguments_then, MoreArguments, more_arguments_then, OperandName, operand_name_then, Continues}
 
 -- what may follow behind a token by what the token does
 abbrev pub Enters : Next → List LocatedToken → Type 0

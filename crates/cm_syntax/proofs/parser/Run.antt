@@ -9,8 +9,8 @@ use Rattle.cm_syntax.specs.Limit.{max_source_bytes, max_open_brackets, max_depth
 use Rattle.cm_syntax.specs.Token.{Token, LocatedToken}
 use Rattle.cm_syntax.specs.Yield.{Quantity, CountedToken, located_tokens}
 use Rattle.cm_syntax.specs.Refusal.{Refusal, is_opening, is_closing, open_brackets, IsTooMuch, IsTooNested}
-use Rattle.cm_syntax.specs.Machine.{State, Next, goes, stops, step, finish, is_within, readable, nested_tokens, Answer, refused, end_answer, token_answer, run}
-use Rattle.cm_syntax.proofs.machine.takes.Reached.{Reached}
+use Rattle.cm_syntax.specs.Parser.{State, Next, goes, stops, step, finish, is_within, readable, nested_tokens, Answer, refused, end_answer, token_answer, run}
+use Rattle.cm_syntax.proofs.parser.takes.Reached.{Reached}
 
 -- ---- limits
 

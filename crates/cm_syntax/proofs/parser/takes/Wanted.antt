@@ -20,8 +20,8 @@ use Rattle.cm_syntax.specs.Token.{Token, LocatedToken, token_at}
 use Rattle.cm_syntax.specs.ParseTree.{Mark, Offset, is_unary, is_update, level_of, Expression, Arguments, Argument, AnyExpression, Simple, FirstPart, Plain, Statements, ParameterList, Parameters}
 use Rattle.cm_syntax.specs.ParseTree as grammar
 use Rattle.cm_syntax.specs.Yield.{sign_of, update_sign, step_sign}
-use Rattle.cm_syntax.specs.Machine.{State, item}
-use Rattle.cm_syntax.proofs.machine.takes.Written.{sign_then, word_then, name_then, expression_then, call_then, arguments_then, any_then, optional_then, items_then, target_then, simple_then, first_part_then, last_part_then, plain_then, statements_then, parameter_list_then, parameters_then, function_then, program_then}
+use Rattle.cm_syntax.specs.Parser.{State, item}
+use Rattle.cm_syntax.proofs.parser.takes.Written.{sign_then, word_then, name_then, expression_then, call_then, arguments_then, any_then, optional_then, items_then, target_then, simple_then, first_part_then, last_part_then, plain_then, statements_then, parameter_list_then, parameters_then, function_then, program_then}
 
 -- the tokens are those of some x, and what follows them is so
 pub data Begins {X : Type 0} (write : X → List LocatedToken → List LocatedToken) (next : List LocatedToken → Type 0) : List LocatedToken → Type 0 where

@@ -4,7 +4,7 @@ use Rattle.cm_syntax.specs.Token.{LocatedToken}
 use Rattle.cm_syntax.specs.ParseTree.{Offset}
 use Rattle.cm_syntax.specs.Yield.{Quantity, CountedToken, located_tokens}
 use Rattle.cm_syntax.proofs.YieldLaw.{regroup}
-use Rattle.cm_syntax.specs.Machine.{State, Next, goes, stops, step}
+use Rattle.cm_syntax.specs.Parser.{State, Next, goes, stops, step}
 
 -- the counts at the tokens that the machine takes, and where it comes to or stops
 pub data Trace : Type 0 where

@@ -13,12 +13,12 @@ use Rattle.cm_syntax.specs.Token.{Token, LocatedToken, token_at}
 use Rattle.cm_syntax.specs.ParseTree.{Mark, Offset, AnyExpression, Simple, Plain, Statements}
 use Rattle.cm_syntax.specs.ParseTree as grammar
 use Rattle.cm_syntax.specs.Yield.{Quantity}
-use Rattle.cm_syntax.specs.Machine.{State, Next, step, is_sign, is_word, value, value_step, call, declaration, simple_step, with_semicolon, body, for_parts, split_parts, spawned, plain_step, statement_step}
-use Rattle.cm_syntax.specs.Machine
-use Rattle.cm_syntax.proofs.machine.takes.Written.{sign_then, word_then, name_then, call_then, any_then, optional_then, declaration_then, simple_then, first_part_then, last_part_then, plain_then}
-use Rattle.cm_syntax.proofs.machine.takes.Wanted.{Begins, begins, Closed, closed_then, simple_name_then, AnyPlain, any_plain_then, Destination, destination_then, PlainName, plain_name_then, Otherwise, otherwise_then, Block, block_then, Continues}
-use Rattle.cm_syntax.proofs.machine.takes.ExpressionTakes.{Enters, by_sign, by_word, BehindValue, value_begins, closed_begins, value_takes}
-use Rattle.cm_syntax.proofs.machine.takes.StatementTakes.{BehindStatement, BehindCall, named_call, named_call_same, named_simple, named_simple_same, simple_takes, simple_name_takes, declaration_begins}
+use Rattle.cm_syntax.specs.Parser.{State, Next, step, is_sign, is_word, value, value_step, call, declaration, simple_step, with_semicolon, body, for_parts, split_parts, spawned, plain_step, statement_step}
+use Rattle.cm_syntax.specs.Parser
+use Rattle.cm_syntax.proofs.parser.takes.Written.{sign_then, word_then, name_then, call_then, any_then, optional_then, declaration_then, simple_then, first_part_then, last_part_then, plain_then}
+use Rattle.cm_syntax.proofs.parser.takes.Wanted.{Begins, begins, Closed, closed_then, simple_name_then, AnyPlain, any_plain_then, Destination, destination_then, PlainName, plain_name_then, Otherwise, otherwise_then, Block, block_then, Continues}
+use Rattle.cm_syntax.proofs.parser.takes.ExpressionTakes.{Enters, by_sign, by_word, BehindValue, value_begins, closed_begins, value_takes}
+use Rattle.cm_syntax.proofs.parser.takes.StatementTakes.{BehindStatement, BehindCall, named_call, named_call_same, named_simple, named_simple_same, simple_takes, simple_name_takes, declaration_begins}
 
 -- ---- an `else` belongs to the nearest `if`
 
@@ -72,7 +72,7 @@ data Parenthesized : Type 0 where
 abbrev parenthesized_then : Parenthesized → List LocatedToken → List LocatedToken
 parenthesized_then (Parenthesized.parenthesized opening e closing) rest = sign_then sign.ParenOpen opening (any_then e (sign_then sign.ParenClose closing rest))
 
-parenthesized_begins : (k : Expr Name → State) (w : List LocatedToken) → Continues (Machine.parenthesized k) w → Begins parenthesized_then (BehindValue k) w
+parenthesized_begins : (k : Expr Name → State) (w : List LocatedToken) → Continues (Parser.parenthesized k) w → Begins parenthesized_then (BehindValue k) w
 parenthesized_begins k w (begins opening inside h) = by_closed inside (closed_begins sign.ParenClose k inside h)
   where
     by_closed : (w : List LocatedToken) → Begins (closed_then sign.ParenClose) (BehindValue k) w → Begins parenthesized_then (BehindValue k) (sign_then sign.ParenOpen opening w)
@@ -88,7 +88,7 @@ abbrev StartsPlain : (Stmt Name → State) → List LocatedToken → Type 0
 StartsPlain k w = Begins any_plain_then (BehindStatement k) w
 
 module _ (at d : ℕ) (k : Stmt Name → State) where
-  if_takes : (w : List LocatedToken) → Continues (Machine.parenthesized (λ test. body d (λ chosen. State.otherwise d test chosen k))) w → StartsPlain k (word_then keyword.If at w)
+  if_takes : (w : List LocatedToken) → Continues (Parser.parenthesized (λ test. body d (λ chosen. State.otherwise d test chosen k))) w → StartsPlain k (word_then keyword.If at w)
   if_takes w h = by_parts w (parenthesized_begins (λ test. body d (λ chosen. State.otherwise d test chosen k)) w h)
     where
       by_parts : (w : List LocatedToken) → Begins parenthesized_then (BehindValue (λ test. body d (λ chosen. State.otherwise d test chosen k))) w → StartsPlain k (word_then keyword.If at w)
@@ -98,7 +98,7 @@ module _ (at d : ℕ) (k : Stmt Name → State) where
           let all = if_with_else offset other at opening e closing chosen (λ e. with_else offset other chosen e) in
           subst (Begins any_plain_then (BehindStatement k)) (all.same rest) (begins (AnyPlain.plain all.made) rest h)
 
-  while_takes : (w : List LocatedToken) → Continues (Machine.parenthesized (λ test. body d (λ inside. k (statement.While test inside)))) w → StartsPlain k (word_then keyword.While at w)
+  while_takes : (w : List LocatedToken) → Continues (Parser.parenthesized (λ test. body d (λ inside. k (statement.While test inside)))) w → StartsPlain k (word_then keyword.While at w)
   while_takes w h = by_parts w (parenthesized_begins (λ test. body d (λ inside. k (statement.While test inside))) w h)
     where
       by_parts : (w : List LocatedToken) → Begins parenthesized_then (BehindValue (λ test. body d (λ inside. k (statement.While test inside)))) w → StartsPlain k (word_then keyword.While at w)
@@ -124,7 +124,7 @@ module _ (at d : ℕ) (k : Stmt Name → State) where
   return_takes : (w : List LocatedToken) → Continues (State.optional_value (λ given. with_semicolon k (statement.Return at given))) w → StartsPlain k (word_then keyword.Return at w)
   return_takes w (begins e _ (given, begins semicolon rest h)) = begins (AnyPlain.plain (Plain.return at e semicolon)) rest (statement.Return at given, h)
 
-  print_takes : (w : List LocatedToken) → Continues (Machine.parenthesized (λ e. with_semicolon k (statement.Print e))) w → StartsPlain k (word_then keyword.Print at w)
+  print_takes : (w : List LocatedToken) → Continues (Parser.parenthesized (λ e. with_semicolon k (statement.Print e))) w → StartsPlain k (word_then keyword.Print at w)
   print_takes w h = by_parts w (parenthesized_begins (λ e. with_semicolon k (statement.Print e)) w h)
     where
       by_parts : (w : List LocatedToken) → Begins parenthesized_then (BehindValue (λ e. with_semicolon k (statement.Print e))) w → StartsPlain k (word_then keyword.Print at w)

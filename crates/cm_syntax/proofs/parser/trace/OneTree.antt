@@ -8,10 +8,10 @@ use Rattle.cm_syntax.specs.ParseTree as grammar
 use Rattle.cm_syntax.specs.Yield.{CountedToken, program_tokens, located_tokens}
 use Rattle.cm_syntax.specs.Lowering.{lower_program}
 use Rattle.cm_syntax.specs.Grammar.{Parses, IsSourceOf}
-use Rattle.cm_syntax.specs.Machine.{State, some_functions, finish, start}
+use Rattle.cm_syntax.specs.Parser.{State, some_functions, finish, start}
 use Rattle.cm_syntax.proofs.lexing.TokenLaw.{Tokens-one}
-use Rattle.cm_syntax.proofs.machine.trace.Trace.{Trace, took, stuck, over, trace, taken}
-use Rattle.cm_syntax.proofs.machine.trace.ProgramTrace.{program_leads}
+use Rattle.cm_syntax.proofs.parser.trace.Trace.{Trace, took, stuck, over, trace, taken}
+use Rattle.cm_syntax.proofs.parser.trace.ProgramTrace.{program_leads}
 
 -- The machine takes the tokens of a program with their counts, and comes behind its functions.
 pub program_traced : (p : grammar.Program) → trace start (located_tokens (program_tokens p)) ≡ taken (program_tokens p) (over (State.functions_next (lower_program p)))
