@@ -221,11 +221,6 @@ pub first-refusal : (items : List Item) (k : ℕ) (refusal : AsmRefusal) → Giv
     → ((j : ℕ) (other : AsmRefusal) → j < k → IsRefusedAt items j other → ⊥) → RefusesFirst items refusal
 first-refusal items k refusal h fine = record { at = k; here = h; before = fine }
 
-pub IsFirstRefusal-from : (items : List Item) (refusal : AsmRefusal) → RefusesFirst items refusal → IsFirstRefusal items refusal
-IsFirstRefusal-from items (refusals.Label at) h = h
-IsFirstRefusal-from items (refusals.Range at far) h = h
-IsFirstRefusal-from items refusals.Memory h = tt
-
 answers : (refusal given : AsmRefusal) → given ≡ refusal → AnswersWith refusal (Err given)
 answers refusal (refusals.Label at) e = e
 answers refusal (refusals.Range at far) e = e

@@ -94,11 +94,6 @@ number-small count value digit small d =
     let grown : 16 ^ (count + 1) ≡ 16 ^ count * 16 = rw same (pow16-suc count) in
     omega arith
 
-pub number-fits : (count value digit : ℕ) → value < 16 ^ count → count < 8 → digit < 16 → value * 16 + digit < 2 ^ 32
-number-fits count value digit small few d =
-    let bound : 16 ^ count ≤ 16 ^ 7 = pow-le-pow_right {n = 16} (lit< tt) {i = count} {j = 7} (omega arith) in
-    omega arith
-
 -- each character of a number's digits is one
 IsHexByte-hex : (k n j : ℕ) → j < k → IsHexByte (get_or (hex k n) j 0)
 unfolding hex

@@ -54,9 +54,6 @@ get_or-listing_from (w ∷ words) a (suc k) n inside short =
 
 -- ---- words that were read
 
-AreWords-none : AreWords []
-AreWords-none = record { few = omega arith; each = λ k. omega arith }
-
 -- a line more was read
 pub listing-read : (text words : List ℕ) (at w : ℕ) → take at text ≡ listing words → at ≡ 18 * length words
     → take 18 (drop at text) ≡ line (4 * length words) w → take (at + 18) text ≡ listing (words ++ w ∷ [])

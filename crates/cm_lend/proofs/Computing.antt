@@ -9,7 +9,7 @@ use Rattle.cm_syntax.specs.Fault.{faults, program_of}
 use Rattle.cm_syntax.specs.Walk.{Event, mentions, calls, spawns, ends, Order, nothing, event, next, choice, turns}
 use Rattle.cm_syntax.specs.Evaluation.{function_order}
 use Rattle.cm_syntax.specs.Lending.{variables}
-use Rattle.cm_syntax.proofs.machine.SourceText.{OfTree, answer_to, has_tree}
+use Rattle.cm_syntax.proofs.parser.SourceText.{OfTree, answer_to, has_tree}
 use Rattle.cm_lend.specs.Breach.{distance, Rather, IsBest, Picks, Breaks, IsAgain, IsOnceMore, BreaksAmong}
 use Rattle.cm_lend.specs.Summary.{loan, mention, Meets, MeetsAt, IsBetter, Sums}
 use Rattle.cm_lend.specs.Answer.{IsAnswer}

@@ -1,7 +1,6 @@
 -- What the order of evaluation is at each expression and statement as the code matches it, and at the lists that loops
 -- go through.
 use Rattle.std.proofs.Common.{◌≡◌, ℕ, ◌+◌, ◌<◌, Option, Some, None, List, ◌++◌, length, get_or, drop, refl, ap, ◌∙◌, sym, subst}
-use mathlib.Core.Former.{Count}
 use Rattle.cm_syntax.specs.declared.expr.Mark.{Mark}
 use Rattle.cm_syntax.specs.declared.expr.Op.{Op}
 use Rattle.cm_syntax.specs.declared.expr.Expr.{Expr}
@@ -10,11 +9,12 @@ use Rattle.cm_syntax.specs.declared.expr.Arg.{Arg}
 use Rattle.cm_syntax.specs.declared.expr.Call.{Call, Row_of-Arg, end_of-Arg, more_of-Arg, items-the_row-Arg, items_hidden-the_row-Arg-1}
 use Rattle.cm_syntax.specs.declared.stmt.Item.{Item}
 use Rattle.cm_syntax.specs.declared.stmt.Stmt.{Stmt, Row_of-Stmt, end_of-Stmt, more_of-Stmt, items-the_row-Stmt, items_hidden-the_row-Stmt-1}
-use Rattle.cm_syntax.specs.declared.stmt.Stmt.TheVariants.{If, While, For, Split, Split', Block, Block'}
+use Rattle.cm_syntax.specs.declared.stmt.Stmt.TheVariants.{If, While, For, Split, Block}
 use Rattle.cm_syntax.specs.Shape.{Binary-Joined, Unary-Prefixed, Index-Element, Input-InputAt}
 use Rattle.cm_syntax.specs.Walk.{nothing, event, calls, next, choice}
 use Rattle.cm_syntax.specs.Evaluation.{mention_order, joined_order, slice_of, row_slices, slices, expression_order, row_order, arguments_order, argument_order, optional_order, items_order, rounds_order, split_order, statement_order, statements_order, body_order}
 use Rattle.cm_syntax.proofs.FrameLaw.{next as next_of_list}
+use Rattle.cm_syntax.proofs.Rows.{row_of_block, row_of_call}
 use Rattle.cm_syntax.proofs.StatementLaw.{If-Alone, If-Else, While-Loop, For-Loop}
 use Rattle.cm_lend.specs.Summary.{Sums}
 use Rattle.cm_lend.specs.declared.summary.Summary.{Summary}
@@ -41,10 +41,6 @@ arguments_row n (more_of-Arg first later) = ap (next (argument_order first)) (ar
 slices_row : (n : _) (row : Row_of-Arg ℕ n) → row_slices row ≡ slices (items-the_row-Arg ℕ n row)
 slices_row n end_of-Arg = refl
 slices_row n (more_of-Arg first later) = ap (λ x. slice_of first ++ x) (slices_row _ later)
-
-abbrev row_of_call : Expr ℕ → (n : Count) × Row_of-Arg ℕ n
-row_of_call (expression.Call' _ _ row) = (_, row)
-row_of_call _ = (_, end_of-Arg)
 
 pub order_Call : (call : Call ℕ) → next (arguments_order call.arguments) (event (calls (slices call.arguments))) ≡ expression_order (expression.Call call)
 order_Call call =
@@ -76,14 +72,9 @@ body_row : (n : _) (row : Row_of-Stmt ℕ n) → statements_order row ≡ body_o
 body_row n end_of-Stmt = refl
 body_row n (more_of-Stmt first later) = ap (next (statement_order first)) (body_row _ later)
 
-abbrev row_of : Stmt ℕ → (n : Count) × Row_of-Stmt ℕ n
-row_of (Block' _ row) = (_, row)
-row_of (Split' _ _ _ _ _ row _) = (_, row)
-row_of _ = (_, end_of-Stmt)
-
 pub order_Block : (s : Stmt ℕ) (body : List (Stmt ℕ)) → s ≡ Block body → statement_order s ≡ body_order body
 order_Block s body is =
-    let row = row_of (Block body) in
+    let row = row_of_block (Block body) in
     let same = items_hidden-the_row-Stmt-1 ℕ body in
     let whole : statement_order s ≡ statements_order row.1 = ap statement_order is in
     whole ∙ body_row row.0 row.1 ∙ ap body_order same
@@ -91,7 +82,7 @@ order_Block s body is =
 pub order_Split : (s : Stmt ℕ) (whole : Mark ℕ) (index : Expr ℕ) (left right : Mark ℕ) (body : List (Stmt ℕ)) (close : ℕ) →
     s ≡ Split whole index left right body close → statement_order s ≡ split_order whole (expression_order index) left right (body_order body) close
 order_Split s whole index left right body close is =
-    let row = row_of (Split whole index left right body close) in
+    let row = row_of_block (Split whole index left right body close) in
     let same = items_hidden-the_row-Stmt-1 ℕ body in
     let all : statement_order s ≡ split_order whole (expression_order index) left right (statements_order row.1) close = ap statement_order is in
     all ∙ ap (λ o. split_order whole (expression_order index) left right o close) (body_row row.0 row.1 ∙ ap body_order same)

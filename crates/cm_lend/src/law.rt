@@ -46,6 +46,8 @@ pub fn lent_sources()
     ensures declared_round { IsRefusedLent (codes "cilk void z(int a[]) { } cilk int main() { while (1) { int b[1]; spawn z(b); } }") 59 65 }
     ensures right_operand { IsRefusedLent (codes "cilk void z(int a[]) { } cilk int main() { int a[1]; spawn z(a); return 0 && a[0]; }") 77 53 }
     ensures unreached { IsRefusedLent (codes "cilk void z(int a[]) { } cilk int main() { int a[1]; return 0; spawn z(a); a[0] = 1; }") 75 63 }
+    ensures part_round { IsRefusedLent (codes "cilk void z(int a[]) { } cilk int main() { int a[2]; while (1) split a at 1 as l, r { spawn z(l); } return 0; }") 79 86 }
+    ensures two_behind { IsRefusedLent (codes "cilk void z(int a[]) { } cilk int main() { int a[1]; while (1) { a[0] = 1; if (a[0]) spawn z(a); else { spawn z(a); } } return 0; }") 65 85 }
     ensures inner_split { IsRefusedLent (codes "cilk void z(int a[]) { } cilk int main() { int a[4]; split a at 2 as l, r { split l at 1 as m, n { spawn z(n); } } return 0; }") 111 99 }
 {}
 
@@ -58,6 +60,8 @@ pub fn accepted_sources()
     ensures before { ObeysLending (codes "cilk int f(int v) { return v; } cilk int main() { int x; x = spawn f(x + 1); sync; return x; }") }
     ensures returned_in_split { ObeysLending (codes "cilk void z(int a[]) { } cilk int main() { int a[4]; split a at 2 as l, r { spawn z(l); return 0; } }") }
     ensures other_part { ObeysLending (codes "cilk void z(int a[]) { } cilk int main() { int a[4]; split a at 2 as l, r { spawn z(l); r[0] = 1; sync; } return 0; }") }
+    ensures nested_argument { ObeysLending (codes "int h(int a[]) { return a[0]; } cilk void n(int v) { } cilk int main() { int a[1]; spawn n(h(a)); a[0] = 1; return 0; }") }
+    ensures shadowed { ObeysLending (codes "cilk void z(int a[]) { } cilk int main() { int a[1]; spawn z(a); { int a; a = 1; } return 0; }") }
     ensures nested_call { ObeysLending (codes "int h(int a[]) { return a[0]; } int g(int a[], int v) { return v; } int main() { int a[1]; return g(a, h(a)); }") }
 {}
 

@@ -4,7 +4,6 @@ use Rattle.std.specs.Prelude.{map}
 use Rattle.std.proofs.lemmas.List.{take_more, map-append}
 use Rattle.std.proofs.lemmas.List.Sums.{fold-append}
 use Rattle.std.proofs.lemmas.Grind.{flat_map-append}
-use mathlib.Core.Former.{Count}
 use Rattle.cm_syntax.specs.declared.name.Name.{Name}
 use Rattle.cm_syntax.specs.declared.expr.Mark.{Mark}
 use Rattle.cm_syntax.specs.declared.expr.Op.{Op}
@@ -18,6 +17,7 @@ use Rattle.cm_syntax.specs.Shape.{Joined, Prefixed, Element, InputAt, Binary-Joi
 use Rattle.cm_syntax.specs.declared.stmt.Item.{Item}
 use Rattle.cm_syntax.specs.Fault.{has_misfit}
 use Rattle.cm_syntax.specs.Resolution.{Use, mention_of, call_use, element_read, argument_form, argument_forms, expression_uses, arguments_uses, argument_uses, call_uses, resolve_mark, resolve_function_mark, resolve_expression, resolve_arguments, resolve_argument, resolve_call}
+use Rattle.cm_syntax.proofs.Rows.{row_of_call}
 use Rattle.cm_names.specs.Found.{Found}
 use Rattle.cm_names.specs.Finding.{after_use, after_uses}
 use Rattle.cm_names.specs.Visible.{Shows, Sight}
@@ -128,10 +128,6 @@ resolves-more functions f variables arguments i x resolved longer a old between 
     }
 
 -- ---- calls
-
-abbrev row_of_call : Expr Name → (n : Count) × Row_of-Arg Name n
-row_of_call (expression.Call' _ _ row) = (_, row)
-row_of_call _ = (_, end_of-Arg)
 
 module _ (visible : Sight) where
   resolved_row : (functions : List (Function Name)) (n : _) (row : Row_of-Arg Name n) → resolve_arguments functions visible row ≡ map (resolve_argument functions visible) (items-the_row-Arg Name n row)

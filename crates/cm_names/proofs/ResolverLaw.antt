@@ -138,12 +138,6 @@ refused tree no_main at is = is
 refused tree frame at is = is
 refused tree count at is = is
 
-pub no_answer : (tree : Tree) (variant : Variant) (at : ℕ) → faults tree ≡ [] → IsNameAnswer tree at variant → ⊥
-no_answer tree variant at none is = nothing (rw (none) at is.faulty)
-  where
-    nothing : {X : Type 0} {x : X} → Contains {X = X} [] x → ⊥
-    nothing among = omega (arith, among.1)
-
 as_none : (o : Option ℕ) (b : Bool) → is_some o ≡ not b → b ≡ is_none o
 as_none None true is = refl
 as_none None false is = absurd (cc)

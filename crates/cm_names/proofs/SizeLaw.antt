@@ -1,12 +1,12 @@
 -- The measure of a statement, and that it grows at each step up in a tree.
 use Rattle.std.proofs.Common.{◌≡◌, ℕ, zero, suc, ◌+◌, ◌<◌, ◌≤◌, Option, None, Some, List, [], ◌∷◌, length, get_or, refl, ap, ◌∙◌, arith}
-use mathlib.Core.Former.{Count}
 use Rattle.cm_syntax.specs.declared.name.Name.{Name}
 use Rattle.cm_syntax.specs.declared.expr.Mark.{Mark}
 use Rattle.cm_syntax.specs.declared.expr.Expr.{Expr}
 use Rattle.cm_syntax.specs.declared.stmt.Stmt.{Stmt, Row_of-Stmt, end_of-Stmt, more_of-Stmt, items-the_row-Stmt, items_hidden-the_row-Stmt-1}
 use Rattle.cm_syntax.specs.declared.stmt.Stmt.TheVariants.{If, While, For, Split, Split', Block, Block'}
 use Rattle.cm_syntax.specs.Shape.{IfAlone, IfElse, WhileLoop, ForLoop}
+use Rattle.cm_syntax.proofs.Rows.{row_of_block}
 use Rattle.cm_syntax.proofs.StatementLaw.{If-Alone, If-Else, While-Loop, For-Loop}
 
 abbrev mutual
@@ -48,20 +48,15 @@ row_sizes : (n : _) (row : Row_of-Stmt Name n) → row_size row ≡ body_size (i
 row_sizes n end_of-Stmt = refl
 row_sizes n (more_of-Stmt first more) = ap (λ x. statement_size first + x) (row_sizes _ more)
 
-abbrev row_of : Stmt Name → (n : Count) × Row_of-Stmt Name n
-row_of (Block' _ row) = (_, row)
-row_of (Split' _ _ _ _ _ row _) = (_, row)
-row_of _ = (_, end_of-Stmt)
-
 pub size-Block : (body : List (Stmt Name)) → statement_size (Block body) ≡ body_size body + 1
 size-Block body =
-    let row = row_of (Block body) in
+    let row = row_of_block (Block body) in
     ap (λ n. n + 1) (row_sizes row.0 row.1 ∙ ap body_size (items_hidden-the_row-Stmt-1 Name body))
 
 pub size-Split : (whole : Mark Name) (index : Expr Name) (left right : Mark Name) (body : List (Stmt Name)) (close : ℕ) →
     statement_size (Split whole index left right body close) ≡ body_size body + 1
 size-Split whole index left right body close =
-    let row = row_of (Split whole index left right body close) in
+    let row = row_of_block (Split whole index left right body close) in
     ap (λ n. n + 1) (row_sizes row.0 row.1 ∙ ap body_size (items_hidden-the_row-Stmt-1 Name body))
 
 pub statement_smaller : (body : List (Stmt Name)) (i : ℕ) (s : Stmt Name) → i < length body → s ≡ get_or body i s →

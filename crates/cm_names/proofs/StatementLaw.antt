@@ -17,7 +17,8 @@ use Rattle.cm_syntax.specs.declared.stmt.Function.{Function}
 use Rattle.cm_syntax.specs.Shape.{IfAlone, IfElse, WhileLoop, ForLoop}
 use Rattle.cm_syntax.specs.Text.{is_same}
 use Rattle.cm_syntax.specs.Resolution as resolution
-use Rattle.cm_syntax.specs.Resolution.{Scope, Role, split_whole, spawn_destination, Use, redeclaration, parallel_keyword, return_keyword, has_value, lookup, hide, part_slot, inner_scope, declare_name, split_scope, slot_count, reserve_slots, scope_after, mention_of, expression_uses, optional_uses, call_uses, target_uses, statement_slots, statement_uses, statements_slots, statements_uses, body_slots, body_uses, resolve_mark, resolve_expression, resolve_optional, resolve_call, resolve_target, resolve_statement, resolve_statements, resolve_body}
+use Rattle.cm_syntax.specs.Resolution.{Scope, split_whole, spawn_destination, Use, redeclaration, parallel_keyword, return_keyword, has_value, lookup, hide, part_slot, inner_scope, declare_name, split_scope, slot_count, reserve_slots, scope_after, mention_of, expression_uses, optional_uses, call_uses, target_uses, statement_slots, statement_uses, statements_slots, statements_uses, body_slots, body_uses, resolve_mark, resolve_expression, resolve_optional, resolve_call, resolve_target, resolve_statement, resolve_statements, resolve_body}
+use Rattle.cm_syntax.proofs.Rows.{row_of_block}
 use Rattle.cm_syntax.proofs.StatementLaw.{If-Alone, If-Else, While-Loop, For-Loop}
 use Rattle.cm_syntax.proofs.naming.NameLaw.{slots_counted}
 use Rattle.cm_names.specs.declared.variable.Variable.{Variable}
@@ -46,30 +47,25 @@ row_resolved : {n : _} (functions : List (Function Name)) (scope : Scope) (row :
 row_resolved functions scope end_of-Stmt = refl
 row_resolved functions scope (more_of-Stmt first more) = ap (λ t. resolve_statement functions scope first ∷ t) (row_resolved functions (scope_after scope first) more)
 
-abbrev row_of : Stmt Name → (n : _) × Row_of-Stmt Name n
-row_of (statement.Block' _ row) = (_, row)
-row_of (statement.Split' _ _ _ _ _ row _) = (_, row)
-row_of _ = (_, end_of-Stmt)
-
 block_slots : (scope : Scope) (body : List (Stmt Name)) → statement_slots scope (statement.Block body) ≡ body_slots (inner_scope scope) body
 block_slots scope body =
-    row_slots (inner_scope scope) (row_of (statement.Block body)).1 ∙ ap (body_slots (inner_scope scope)) (items_hidden-the_row-Stmt-1 Name body)
+    row_slots (inner_scope scope) (row_of_block (statement.Block body)).1 ∙ ap (body_slots (inner_scope scope)) (items_hidden-the_row-Stmt-1 Name body)
 
 block_uses : (scope : Scope) (body : List (Stmt Name)) → statement_uses scope (statement.Block body) ≡ body_uses (inner_scope scope) body
 block_uses scope body =
-    row_uses (inner_scope scope) (row_of (statement.Block body)).1 ∙ ap (body_uses (inner_scope scope)) (items_hidden-the_row-Stmt-1 Name body)
+    row_uses (inner_scope scope) (row_of_block (statement.Block body)).1 ∙ ap (body_uses (inner_scope scope)) (items_hidden-the_row-Stmt-1 Name body)
 
 block_resolved : (functions : List (Function Name)) (scope : Scope) (body : List (Stmt Name)) →
     resolve_statement functions scope (statement.Block body) ≡ statement.Block (resolve_body functions (inner_scope scope) body)
 block_resolved functions scope body =
-    ap statement.Block (row_resolved functions (inner_scope scope) (row_of (statement.Block body)).1 ∙ ap (resolve_body functions (inner_scope scope)) (items_hidden-the_row-Stmt-1 Name body))
+    ap statement.Block (row_resolved functions (inner_scope scope) (row_of_block (statement.Block body)).1 ∙ ap (resolve_body functions (inner_scope scope)) (items_hidden-the_row-Stmt-1 Name body))
 
 module _ (whole : Mark Name) (place : Expr Name) (left right : Mark Name) (body : List (Stmt Name)) (close : ℕ) where
   split_slots : (scope : Scope) → statement_slots scope (statement.Split whole place left right body close) ≡ parts_slots scope whole left right body
   split_slots scope =
       let parts = inner_scope (split_scope scope whole left right) in
       let kind = part_slot (lookup scope.visible whole.name) in
-      ap (λ t. kind ∷ kind ∷ t) (row_slots parts (row_of (statement.Split whole place left right body close)).1 ∙ ap (body_slots parts) (items_hidden-the_row-Stmt-1 Name body))
+      ap (λ t. kind ∷ kind ∷ t) (row_slots parts (row_of_block (statement.Split whole place left right body close)).1 ∙ ap (body_slots parts) (items_hidden-the_row-Stmt-1 Name body))
 
   split_uses : (scope : Scope) → statement_uses scope (statement.Split whole place left right body close) ≡
       mention_of scope.visible whole split_whole ∷ (expression_uses scope.visible place ++
@@ -77,7 +73,7 @@ module _ (whole : Mark Name) (place : Expr Name) (left right : Mark Name) (body 
   split_uses scope =
       let parts = inner_scope (split_scope scope whole left right) in
       ap (λ t. mention_of scope.visible whole split_whole ∷ (expression_uses scope.visible place ++ ((if is_same left.name right.name then redeclaration right.at ∷ [] else []) ++ t)))
-      (row_uses parts (row_of (statement.Split whole place left right body close)).1 ∙ ap (body_uses parts) (items_hidden-the_row-Stmt-1 Name body))
+      (row_uses parts (row_of_block (statement.Split whole place left right body close)).1 ∙ ap (body_uses parts) (items_hidden-the_row-Stmt-1 Name body))
 
   split_resolved : (functions : List (Function Name)) (scope : Scope) → resolve_statement functions scope (statement.Split whole place left right body close) ≡
       statement.Split (resolve_mark scope.visible whole) (resolve_expression functions scope.visible place)
@@ -87,7 +83,7 @@ module _ (whole : Mark Name) (place : Expr Name) (left right : Mark Name) (body 
       let parts = inner_scope (split_scope scope whole left right) in
       ap (λ t. statement.Split (resolve_mark scope.visible whole) (resolve_expression functions scope.visible place)
       (record { name = scope.next_slot; at = left.at }) (record { name = scope.next_slot + 1; at = right.at }) t close)
-      (row_resolved functions parts (row_of (statement.Split whole place left right body close)).1 ∙ ap (resolve_body functions parts) (items_hidden-the_row-Stmt-1 Name body))
+      (row_resolved functions parts (row_of_block (statement.Split whole place left right body close)).1 ∙ ap (resolve_body functions parts) (items_hidden-the_row-Stmt-1 Name body))
 
 -- ---- statements that declare nothing in their scope
 
@@ -185,12 +181,6 @@ module _ (functions : List (Function Name)) (f : Function Name) where
         ap (λ y. statement.Spawn at (Some y) k) one.0 ∙ ap (statement.Spawn at (Some (resolve_mark scope.visible x))) two.0,
         own functions f base scope (statement.Spawn at (Some x) call) base scope old new here steps steps.at.shown,
       ))
-
-  pub own_sync : (at : ℕ) (old : Pass) (found : Found) → found ≡ after_use functions f old.found (parallel_keyword at) →
-      DoesOwn functions f (statement.Sync at) old (record old { found = found }) (statement.Sync at)
-  own_sync at old found noted base scope here =
-      let word = used base scope (parallel_keyword at) old found here noted in
-      (refl, own functions f base scope (statement.Sync at) base scope old (record old { found = found }) here word word.at.shown)
 
   pub own_return : (at : ℕ) (value : Option (Expr Name)) (is_there : Bool) (old new : Pass) (found : Found) (v : Option (Expr ℕ)) → is_there ≡ is_some value →
       found ≡ after_use functions f old.found (return_keyword at is_there) →

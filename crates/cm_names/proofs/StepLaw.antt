@@ -232,9 +232,6 @@ module _ (functions : List (Function Name)) where
   body_values scope [] = refl
   body_values scope (first ∷ more) = ap (λ t. resolve_statement functions scope first ∷ t) (body_values (scope_after scope first) more)
 
-  pub body_init : (f : Function Name) (base : ℕ) (all : List (Stmt Name)) (old : Pass) (made : List (Stmt ℕ)) → made ≡ [] → BodyLeft f base all all old old made
-  body_init f base = walk_init scope_after statement_slots statement_uses (resolve_statement functions) functions f base
-
   pub body_step : (f : Function Name) (base : ℕ) (all : List (Stmt Name)) (i : ℕ) (s : Stmt Name) (old mid new : Pass) (made grown : List (Stmt ℕ)) (y : Stmt ℕ) → i < length all → s ≡ get_or all i s →
       BodyLeft f base all (drop i all) old mid made → DoesStatement functions f base s mid new y → grown ≡ made ++ y ∷ [] → BodyLeft f base all (drop (i + 1) all) old new grown
   body_step f base = walk_step scope_after statement_slots statement_uses (resolve_statement functions) functions f base

@@ -1,11 +1,12 @@
 -- The lemmas that the proofs share.
-pub mod SpacedLaws
-pub mod PrinterLaws
-pub mod ScanLaws
-pub mod LexerLaws
-pub mod StepLaws
-pub mod ExpressionLaws
-pub mod SimpleLaws
-pub mod StatementLaws
-pub mod FunctionLaws
-pub mod SourceLaws
+pub mod SpacedLaw
+pub mod PrinterLaw
+pub mod ScanLaw
+pub mod SpellingLaw
+pub mod LexerLaw
+pub mod StepLaw
+pub mod ExpressionLaw
+pub mod SimpleLaw
+pub mod StatementLaw
+pub mod FunctionLaw
+pub mod SourceLaw

@@ -1,6 +1,6 @@
 -- What the lexer finds at the front of a text.
 use Rattle.cm_syntax.specs.Lexer.{Next, skips, finds, fails}
-use Rattle.cm_syntax.specs.Machine.{capped_token}
+use Rattle.cm_syntax.specs.Parser.{capped_token}
 use Rattle.cm_reader.specs.declared.lexer.Found.{Found}
 use Rattle.cm_reader.specs.declared.lexer.Found.TheVariants as found
 use Rattle.cm_reader.specs.Next.{token_of}

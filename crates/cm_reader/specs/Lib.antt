@@ -4,3 +4,4 @@ pub mod Spaced
 pub mod ReadBack
 pub mod Read
 pub mod Answer
+pub mod Spelling

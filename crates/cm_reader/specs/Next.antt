@@ -7,7 +7,7 @@ use Rattle.cm_syntax.specs.declared.token.Keyword.TheVariants as keyword
 use Rattle.cm_syntax.specs.declared.token.Sign.{Sign}
 use Rattle.cm_syntax.specs.declared.token.Sign.TheVariants as sign
 use Rattle.cm_syntax.specs.Token.{Token}
-use Rattle.cm_syntax.specs.Machine.{NestedToken, is_sign, is_word, operator_of, update_operator}
+use Rattle.cm_syntax.specs.Parser.{NestedToken, is_sign, is_word, operator_of, update_operator}
 use Rattle.cm_reader.specs.declared.token.Token.{Token as HeldToken}
 use Rattle.cm_reader.specs.declared.token.Token.TheVariants as held
 use Rattle.cm_reader.specs.declared.token.LocatedToken.{LocatedToken}

@@ -7,6 +7,7 @@ use Rattle.cm_syntax.specs.declared.expr.Arg.{Arg}
 use Rattle.cm_syntax.specs.declared.stmt.Item.{Item}
 use Rattle.cm_syntax.specs.declared.stmt.Stmt.{Stmt}
 use Rattle.cm_syntax.specs.declared.stmt.Stmt.TheVariants as statement
+use Rattle.cm_syntax.specs.declared.stmt.Target.{Target}
 use Rattle.cm_syntax.specs.declared.stmt.Function.{Function}
 use Rattle.cm_syntax.specs.declared.token.Keyword.TheVariants as keyword
 use Rattle.cm_syntax.specs.declared.token.Sign.TheVariants as sign
@@ -14,7 +15,7 @@ use Rattle.cm_syntax.specs.Token.{Token}
 use Rattle.cm_syntax.specs.ParseTree.{Mark, Offset, level_of}
 use Rattle.cm_syntax.specs.Yield.{Quantity}
 use Rattle.cm_syntax.specs.Refusal.{Refusal}
-use Rattle.cm_syntax.specs.Machine.{State, Next, goes, stops, step, finish, is_within, run, Answer, refused, value, parenthesized, body, function_of}
+use Rattle.cm_syntax.specs.Parser.{State, goes, stops, step, finish, is_within, run, Answer, refused, value, parenthesized, body, function_of}
 use Rattle.cm_reader.specs.declared.token.LocatedToken.{LocatedToken}
 use Rattle.cm_reader.specs.declared.refusal.ReadRefusal.{ReadRefusal}
 use Rattle.cm_reader.specs.declared.refusal.ReadRefusal.TheVariants as refusal
@@ -127,6 +128,13 @@ statement_of (simple.Call call) = statement.Call call
 abbrev pub item_next : (Item Name → State) → State
 item_next k = State.name_next (λ x. State.item_name x k)
 
+-- What follows the target of an assignment is read, whatever the target is: the operator of an update, or none, and the value.
+abbrev pub ReadsWriting : (length : ℕ) → (tokens : List LocatedToken) → Option Op → Expr Name → (rest : List LocatedToken) → Type 0
+ReadsWriting length tokens o e rest = (written : Target Name) → Reads length (State.writing written) tokens (statement.Assign written o e) rest
+
+abbrev pub RefusesWriting : (length : ℕ) → (tokens : List LocatedToken) → ReadRefusal → Type 0
+RefusesWriting length tokens refusal = (written : Target Name) → Refuses length (State.writing written) tokens refusal
+
 -- An assignment or a call is read, where what is counted at its first token is within its limit or not.
 abbrev pub ReadsSimple : (length : ℕ) → (fits : Bool) → (tokens : List LocatedToken) → Stmt Name → (rest : List LocatedToken) → Type 0
 ReadsSimple length fits tokens tree rest = (q : Quantity) → is_within q ≡ fits → Reads length (State.simple q) tokens tree rest
@@ -172,16 +180,35 @@ abbrev pub RefusesOther : (length depth : ℕ) → (tokens : List LocatedToken) 
 RefusesOther length depth tokens refusal =
     (test : Expr Name) (chosen : Stmt Name) (k : Stmt Name → State) → IsRefusal refusal (answer length (State.otherwise depth test chosen k) tokens)
 
+-- The statement of an `if` with this condition is read, and its `else`, where there is one.
+abbrev pub ReadsBranches : (length depth : ℕ) → (tokens : List LocatedToken) → Stmt Name → Option (Stmt Name) → (rest : List LocatedToken) → Type 0
+ReadsBranches length depth tokens chosen other rest =
+    (test : Expr Name) (k : Stmt Name → State) →
+    answer length (body depth (λ chosen. State.otherwise depth test chosen k)) tokens ≡ answer length (k (statement.If test chosen other)) rest
+
+abbrev pub RefusesBranches : (length depth : ℕ) → (tokens : List LocatedToken) → ReadRefusal → Type 0
+RefusesBranches length depth tokens refusal =
+    (test : Expr Name) (k : Stmt Name → State) → IsRefusal refusal (answer length (body depth (λ chosen. State.otherwise depth test chosen k)) tokens)
+
 -- what follows the word `if`
 abbrev pub if_parts : (d : ℕ) → (Stmt Name → State) → State
 if_parts d k = parenthesized (λ test. body d (λ chosen. State.otherwise d test chosen k))
 
+-- the first part of a `for`, between `(` and `;`
+abbrev pub first_turn : (Stmt Name → State) → State
+first_turn k = State.sign_next sign.ParenOpen (State.first_part (λ first. State.sign_next sign.Semicolon (k first)))
+
+-- its condition, if there is one, and `;`
+abbrev pub turn_test : (Option (Expr Name) → State) → State
+turn_test k = State.optional_value (λ test. State.sign_next sign.Semicolon (k test))
+
+-- its last part, and `)`
+abbrev pub last_turn : (Stmt Name → State) → State
+last_turn k = State.last_part (λ last. State.sign_next sign.ParenClose (k last))
+
 -- what stands between `for` and its body
 abbrev pub turns : (Stmt Name → Option (Expr Name) → Stmt Name → State) → State
-turns k =
-    State.sign_next sign.ParenOpen (State.first_part (λ first. State.sign_next sign.Semicolon
-    (State.optional_value (λ test. State.sign_next sign.Semicolon
-    (State.last_part (λ last. State.sign_next sign.ParenClose (k first test last)))))))
+turns k = first_turn (λ first. turn_test (λ test. last_turn (λ last. k first test last)))
 
 abbrev pub ReadsTurns : (length : ℕ) → (tokens : List LocatedToken) → Stmt Name → Option (Expr Name) → Stmt Name → (rest : List LocatedToken) → Type 0
 ReadsTurns length tokens first test last rest =
@@ -190,11 +217,29 @@ ReadsTurns length tokens first test last rest =
 abbrev pub RefusesTurns : (length : ℕ) → (tokens : List LocatedToken) → ReadRefusal → Type 0
 RefusesTurns length tokens refusal = (k : Stmt Name → Option (Expr Name) → Stmt Name → State) → IsRefusal refusal (answer length (turns k) tokens)
 
+-- the array of a `split` and the words of its left part, up to the word `as`
+abbrev pub split_place : (Mark → Expr Name → State) → State
+split_place k = State.name_next (λ whole. State.word_next keyword.At (value (λ e. State.word_next keyword.As (k whole e))))
+
+abbrev pub ReadsPlace : (length : ℕ) → (tokens : List LocatedToken) → Mark → Expr Name → (rest : List LocatedToken) → Type 0
+ReadsPlace length tokens whole e rest = (k : Mark → Expr Name → State) → answer length (split_place k) tokens ≡ answer length (k whole e) rest
+
+abbrev pub RefusesPlace : (length : ℕ) → (tokens : List LocatedToken) → ReadRefusal → Type 0
+RefusesPlace length tokens refusal = (k : Mark → Expr Name → State) → IsRefusal refusal (answer length (split_place k) tokens)
+
+-- the names of the two parts, and `{`
+abbrev pub part_names : (Mark → Mark → State) → State
+part_names k = State.name_next (λ left. State.sign_next sign.Comma (State.name_next (λ right. State.sign_next sign.BraceOpen (k left right))))
+
+abbrev pub ReadsNames : (length : ℕ) → (tokens : List LocatedToken) → Mark → Mark → (rest : List LocatedToken) → Type 0
+ReadsNames length tokens left right rest = (k : Mark → Mark → State) → answer length (part_names k) tokens ≡ answer length (k left right) rest
+
+abbrev pub RefusesNames : (length : ℕ) → (tokens : List LocatedToken) → ReadRefusal → Type 0
+RefusesNames length tokens refusal = (k : Mark → Mark → State) → IsRefusal refusal (answer length (part_names k) tokens)
+
 -- what stands between `split` and its block
 abbrev pub parts : (Mark → Expr Name → Mark → Mark → State) → State
-parts k =
-    State.name_next (λ whole. State.word_next keyword.At (value (λ e. State.word_next keyword.As
-    (State.name_next (λ left. State.sign_next sign.Comma (State.name_next (λ right. State.sign_next sign.BraceOpen (k whole e left right))))))))
+parts k = split_place (λ whole e. part_names (λ left right. k whole e left right))
 
 abbrev pub ReadsParts : (length : ℕ) → (tokens : List LocatedToken) → Mark → Expr Name → Mark → Mark → (rest : List LocatedToken) → Type 0
 ReadsParts length tokens whole e left right rest =

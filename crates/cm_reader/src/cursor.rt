@@ -1,7 +1,7 @@
 //! How tokens are taken.
 ghost use Rattle.std.specs.Prelude.{true, ◌≡◌, ◌<◌, IfOk, IfErr, length};
 ghost use Rattle.std.specs.Prelude.{None};
-ghost use Rattle.cm_syntax.specs.Machine.{State, end_answer};
+ghost use Rattle.cm_syntax.specs.Parser.{State, end_answer};
 ghost use Rattle.cm_reader.specs.Read.{answer, IsRefusal, IsStuck, Goes, Reads, Refuses, ReadsName, RefusesName};
 
 use crate::refusal::ReadRefusal;

@@ -1,7 +1,8 @@
 //! How expressions are read.
 ghost use Rattle.std.specs.Prelude.{◌≡◌, ◌≤◌, ◌<◌, ◌∷◌, ◌++◌, [], IfOk, IfErr, IfSome, IfNone, length, None};
 ghost use Rattle.cm_syntax.specs.declared.expr.Expr.TheVariants as expressions;
-ghost use Rattle.cm_syntax.specs.Machine.{State, whole, value, index, call_of, parenthesized};
+ghost use Rattle.cm_syntax.specs.Parser.{State, whole, value, index, call_of, parenthesized};
+ghost use Rattle.cm_reader.specs.declared.start.PrimaryStart.TheVariants as starts;
 ghost use Rattle.cm_reader.specs.declared.refusal.ReadRefusal.TheVariants.{Memory as OutOfMemory};
 ghost use Rattle.cm_reader.specs.Read.{Reads, Refuses, ReadsExpression, RefusesExpression, ReadsArgument, RefusesArgument, ReadsPrimary, RefusesPrimary, ReadsNamed, RefusesNamed, parenthesized_name, IsOperator, NoOperator};
 ghost use Rattle.cm_reader.specs.Next as next;
@@ -87,39 +88,101 @@ impl Reader {
         ensures err { IfErr result (RefusesPrimary self.length tokens.now) }
     {
         match primary_start(tokens) {
-            PrimaryStart::Number(literal) => {
-                let rest = self.accept(tokens, literal <= MAX_LITERAL)?;
-                Ok((Expr::Number(literal as i32), rest))
-            }
+            PrimaryStart::Number(literal) => self.number(tokens, literal),
             PrimaryStart::Name => {
                 let (name, rest) = self.counted_name(tokens, true)?;
                 self.named_operand(name, rest)
             }
-            PrimaryStart::Pointee => {
-                let rest = self.accept(tokens, true)?;
-                let (name, rest) = self.name(rest)?;
-                let first = Boxed::new(self.alloc, Expr::Number(0))?;
-                Ok((Expr::Index(name, first), rest))
-            }
+            PrimaryStart::Pointee => self.pointed_value(tokens),
             PrimaryStart::Group => self.parenthesized(tokens),
-            PrimaryStart::Len => {
-                let rest = self.accept(tokens, true)?;
-                let (name, rest) = self.parenthesized_name(rest)?;
-                Ok((Expr::Len(name), rest))
-            }
-            PrimaryStart::Input => {
-                let rest = self.accept(tokens, true)?;
-                let (place, rest) = self.parenthesized(rest)?;
-                Ok((Expr::Input(Boxed::new(self.alloc, place)?), rest))
-            }
-            PrimaryStart::Inputs => {
-                let rest = self.accept(tokens, true)?;
-                let rest = self.sign(rest, Sign::ParenOpen)?;
-                let rest = self.sign(rest, Sign::ParenClose)?;
-                Ok((Expr::Inputs, rest))
-            }
+            PrimaryStart::Len => self.array_length(tokens),
+            PrimaryStart::Input => self.input(tokens),
+            PrimaryStart::Inputs => self.inputs(tokens),
             PrimaryStart::Nothing => Err(self.refuse(tokens)),
         }
+    }
+
+    /// The literal that stands next.
+    fn number<'a>(
+        self,
+        tokens: &'a [LocatedToken],
+        literal: u32,
+    ) -> Result<(Expr<Name>, &'a [LocatedToken]), ReadRefusal>
+        requires none { next.unary_operator tokens.now ≡ None }
+        requires start { next.primary_start tokens.now ≡ starts.Number literal }
+        ensures shorter { IfOk result (λ read. length read.1.now < length tokens.now) }
+        ensures ok { IfOk result (λ read. ReadsPrimary self.length tokens.now read.0 read.1.now) }
+        ensures err { IfErr result (RefusesPrimary self.length tokens.now) }
+    {
+        let rest = self.accept(tokens, literal <= MAX_LITERAL)?;
+        Ok((Expr::Number(literal as i32), rest))
+    }
+
+    /// What a pointer points at: its first word.
+    fn pointed_value<'a>(
+        self,
+        tokens: &'a [LocatedToken],
+    ) -> Result<(Expr<Name>, &'a [LocatedToken]), ReadRefusal>
+        requires none { next.unary_operator tokens.now ≡ None }
+        requires start { next.primary_start tokens.now ≡ starts.Pointee }
+        ensures shorter { IfOk result (λ read. length read.1.now < length tokens.now) }
+        ensures ok { IfOk result (λ read. ReadsPrimary self.length tokens.now read.0 read.1.now) }
+        ensures err { IfErr result (RefusesPrimary self.length tokens.now) }
+    {
+        let rest = self.accept(tokens, true)?;
+        let (name, rest) = self.name(rest)?;
+        let first = Boxed::new(self.alloc, Expr::Number(0))?;
+        Ok((Expr::Index(name, first), rest))
+    }
+
+    /// The length of an array.
+    fn array_length<'a>(
+        self,
+        tokens: &'a [LocatedToken],
+    ) -> Result<(Expr<Name>, &'a [LocatedToken]), ReadRefusal>
+        requires none { next.unary_operator tokens.now ≡ None }
+        requires start { next.primary_start tokens.now ≡ starts.Len }
+        ensures shorter { IfOk result (λ read. length read.1.now < length tokens.now) }
+        ensures ok { IfOk result (λ read. ReadsPrimary self.length tokens.now read.0 read.1.now) }
+        ensures err { IfErr result (RefusesPrimary self.length tokens.now) }
+    {
+        let rest = self.accept(tokens, true)?;
+        let (name, rest) = self.parenthesized_name(rest)?;
+        Ok((Expr::Len(name), rest))
+    }
+
+    /// A word of the input.
+    #[cycle(expression)]
+    fn input<'a>(
+        self,
+        tokens: &'a [LocatedToken],
+    ) -> Result<(Expr<Name>, &'a [LocatedToken]), ReadRefusal>
+        requires none { next.unary_operator tokens.now ≡ None }
+        requires start { next.primary_start tokens.now ≡ starts.Input }
+        ensures shorter { IfOk result (λ read. length read.1.now < length tokens.now) }
+        ensures ok { IfOk result (λ read. ReadsPrimary self.length tokens.now read.0 read.1.now) }
+        ensures err { IfErr result (RefusesPrimary self.length tokens.now) }
+    {
+        let rest = self.accept(tokens, true)?;
+        let (place, rest) = self.parenthesized(rest)?;
+        Ok((Expr::Input(Boxed::new(self.alloc, place)?), rest))
+    }
+
+    /// How many words the input has.
+    fn inputs<'a>(
+        self,
+        tokens: &'a [LocatedToken],
+    ) -> Result<(Expr<Name>, &'a [LocatedToken]), ReadRefusal>
+        requires none { next.unary_operator tokens.now ≡ None }
+        requires start { next.primary_start tokens.now ≡ starts.Inputs }
+        ensures shorter { IfOk result (λ read. length read.1.now < length tokens.now) }
+        ensures ok { IfOk result (λ read. ReadsPrimary self.length tokens.now read.0 read.1.now) }
+        ensures err { IfErr result (RefusesPrimary self.length tokens.now) }
+    {
+        let rest = self.accept(tokens, true)?;
+        let rest = self.sign(rest, Sign::ParenOpen)?;
+        let rest = self.sign(rest, Sign::ParenClose)?;
+        Ok((Expr::Inputs, rest))
     }
 
     /// What follows a name in an expression: an index, arguments, or nothing.

@@ -6,7 +6,7 @@ ghost use Rattle.cm_syntax.specs.Token as language;
 ghost use Rattle.cm_syntax.specs.Limit.{max_open_brackets, max_source_bytes};
 ghost use Rattle.cm_syntax.specs.Lexer as lexer;
 ghost use Rattle.cm_syntax.specs.Refusal as refusal;
-ghost use Rattle.cm_syntax.specs.Machine.{capped, capped_token, nested_tokens, readable};
+ghost use Rattle.cm_syntax.specs.Parser.{capped, capped_token, nested_tokens, readable};
 ghost use Rattle.cm_reader.specs.Next.{token_of, nested};
 ghost use Rattle.cm_reader.specs.Found.{next_of, capped_next};
 

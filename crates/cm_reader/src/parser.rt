@@ -1,6 +1,6 @@
 //! How programs are read.
 ghost use Rattle.std.specs.Prelude.{◌≡◌, ◌≤◌, ◌<◌, IfOk, IfErr, length};
-ghost use Rattle.cm_syntax.specs.Machine.{State, start, accepted, function_of, end_answer, some_functions};
+ghost use Rattle.cm_syntax.specs.Parser.{State, start, accepted, function_of, end_answer, some_functions};
 ghost use Rattle.cm_reader.specs.Read.{answer, Reads, Refuses, ReadsMark, RefusesMark, IsRefusal, parameter_next, some_parameters};
 
 use crate::cursor::{MAX_SOURCE_BYTES, Reader};

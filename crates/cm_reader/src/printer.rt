@@ -1,6 +1,6 @@
 //! The canonical text of a tree. Each function puts tokens last, with a space behind each of them; `write` takes
 //! the last space away.
-#![tactic(auto, using(crate::proofs::SpacedLaws::spaced_laws))]
+#![tactic(auto, using(crate::proofs::SpacedLaw::spaced_laws))]
 
 ghost use Rattle.std.specs.Prelude.{◌≡◌, ◌+◌, ◌++◌, ◌∷◌, [], ℕ, true, nat_lt, ◌==◌, ◌↔◌, IsTrue, if◌then◌else◌, pos, IfOk, OnOk};
 ghost use Rattle.std.specs.Fmt.{decimal};
@@ -549,7 +549,7 @@ fn put_number(text: &mut Bytes, number: u32) -> Result<(), Memory>
 }
 
 /// Puts the decimal digits of a number last.
-#[tactic(auto, using(std::proofs::lemmas::Fmt::decimal_digit, std::proofs::lemmas::Fmt::decimal_step, crate::proofs::SpacedLaws::spaced_laws))]
+#[tactic(auto, using(std::proofs::lemmas::Fmt::decimal_digit, std::proofs::lemmas::Fmt::decimal_step, crate::proofs::SpacedLaw::spaced_laws))]
 fn put_digits(text: &mut Bytes, number: u32) -> Result<(), Memory>
     ensures { OnOk result (text.new ≡ text.old ++ decimal number) }
 {

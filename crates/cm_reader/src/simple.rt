@@ -1,9 +1,9 @@
 //! How declarations, assignments and calls are read.
 ghost use Rattle.std.specs.Prelude.{◌≡◌, ◌≤◌, ◌<◌, [], IfOk, IfErr, length};
-ghost use Rattle.cm_syntax.specs.Machine.{State, declarator, call, pointee, is_within};
-ghost use Rattle.cm_syntax.specs.Machine as machine;
+ghost use Rattle.cm_syntax.specs.Parser.{State, declarator, call, pointee, is_within};
+ghost use Rattle.cm_syntax.specs.Parser as machine;
 ghost use Rattle.cm_syntax.specs.Yield.{Quantity};
-ghost use Rattle.cm_reader.specs.Read.{Reads, Refuses, ReadsSimple, RefusesSimple, item_next, statement_of};
+ghost use Rattle.cm_reader.specs.Read.{Reads, Refuses, ReadsSimple, RefusesSimple, ReadsWriting, RefusesWriting, item_next, statement_of};
 ghost use Rattle.cm_reader.specs.Read as read;
 
 use crate::cursor::Reader;
@@ -270,19 +270,32 @@ impl Reader {
         ensures ok { IfOk result (λ read. Reads self.length (State.writing target) tokens.now (statement_of read.0) read.1.now) }
         ensures err { IfErr result (Refuses self.length (State.writing target) tokens.now) }
     {
+        let (op, value, rest) = self.sign_and_value(tokens)?;
+        Ok((Simple::Assign { target, op, value }, rest))
+    }
+
+    /// The sign of an assignment, as the operator of an update or none, and the value.
+    fn sign_and_value<'a>(
+        self,
+        tokens: &'a [LocatedToken],
+    ) -> Result<(Option<Op>, Expr<Name>, &'a [LocatedToken]), ReadRefusal>
+        ensures shorter { IfOk result (λ read. length read.2.now < length tokens.now) }
+        ensures ok { IfOk result (λ read. ReadsWriting self.length tokens.now read.0 read.1 read.2.now) }
+        ensures err { IfErr result (RefusesWriting self.length tokens.now) }
+    {
         if is_next(tokens, Sign::PlusPlus) {
             let rest = self.accept(tokens, true)?;
-            Ok((count_on(true, target), rest))
+            Ok((Some(Op::Add), Expr::Number(1), rest))
         } else if is_next(tokens, Sign::MinusMinus) {
             let rest = self.accept(tokens, true)?;
-            Ok((count_on(false, target), rest))
+            Ok((Some(Op::Sub), Expr::Number(1), rest))
         } else {
             let Some(op) = next_assignment(tokens) else {
                 return Err(self.refuse(tokens));
             };
             let rest = self.accept(tokens, true)?;
             let (value, rest) = self.value(rest)?;
-            Ok((Simple::Assign { target, op, value }, rest))
+            Ok((op, value, rest))
         }
     }
 

@@ -7,6 +7,7 @@ ghost use Rattle.cm_syntax.specs.Lexer as lexer;
 ghost use Rattle.cm_syntax.specs.ParseTree as grammar;
 ghost use Rattle.cm_syntax.specs.Yield as yield_;
 ghost use Rattle.cm_syntax.specs.Canonical as canonical;
+ghost use Rattle.cm_reader.specs.Spelling.{signs_from};
 
 use cm_syntax::{Keyword, Op, Sign};
 
@@ -29,51 +30,6 @@ const KEYWORDS: [Keyword; 17] = [
     Keyword::Split,
     Keyword::At,
     Keyword::As,
-];
-
-/// All signs, the longest first.
-const SIGNS: [Sign; 41] = [
-    Sign::ShiftLeftAssign,
-    Sign::ShiftRightAssign,
-    Sign::ShiftLeft,
-    Sign::ShiftRight,
-    Sign::LessEqual,
-    Sign::GreaterEqual,
-    Sign::Equal,
-    Sign::NotEqual,
-    Sign::AndAnd,
-    Sign::OrOr,
-    Sign::PlusAssign,
-    Sign::MinusAssign,
-    Sign::StarAssign,
-    Sign::SlashAssign,
-    Sign::PercentAssign,
-    Sign::AndAssign,
-    Sign::CaretAssign,
-    Sign::OrAssign,
-    Sign::PlusPlus,
-    Sign::MinusMinus,
-    Sign::Plus,
-    Sign::Minus,
-    Sign::Star,
-    Sign::Slash,
-    Sign::Percent,
-    Sign::Less,
-    Sign::Greater,
-    Sign::Assign,
-    Sign::Exclamation,
-    Sign::Tilde,
-    Sign::Ampersand,
-    Sign::Caret,
-    Sign::Bar,
-    Sign::ParenOpen,
-    Sign::ParenClose,
-    Sign::BraceOpen,
-    Sign::BraceClose,
-    Sign::BracketOpen,
-    Sign::BracketClose,
-    Sign::Comma,
-    Sign::Semicolon,
 ];
 
 /// The words that are set aside.
@@ -131,7 +87,50 @@ fn keyword_among(text: &[u8], keywords: &[Keyword]) -> Option<Keyword>
 pub(crate) fn sign_written(text: &[u8]) -> Option<Sign>
     ensures { result ≡ lexer.sign_written text.now }
 {
-    sign_among(text, &SIGNS)
+    match text.split_first() {
+        None => None,
+        Some((first, _)) => sign_among(text, signs_from(*first)),
+    }
+}
+
+/// The signs that begin with a byte, the longest first.
+fn signs_from(first: u8) -> &'static [Sign]
+    ensures { result.now ≡ signs_from first }
+{
+    match first {
+        b'<' => &[
+            Sign::ShiftLeftAssign,
+            Sign::ShiftLeft,
+            Sign::LessEqual,
+            Sign::Less,
+        ],
+        b'>' => &[
+            Sign::ShiftRightAssign,
+            Sign::ShiftRight,
+            Sign::GreaterEqual,
+            Sign::Greater,
+        ],
+        b'=' => &[Sign::Equal, Sign::Assign],
+        b'!' => &[Sign::NotEqual, Sign::Exclamation],
+        b'&' => &[Sign::AndAnd, Sign::AndAssign, Sign::Ampersand],
+        b'|' => &[Sign::OrOr, Sign::OrAssign, Sign::Bar],
+        b'+' => &[Sign::PlusAssign, Sign::PlusPlus, Sign::Plus],
+        b'-' => &[Sign::MinusAssign, Sign::MinusMinus, Sign::Minus],
+        b'*' => &[Sign::StarAssign, Sign::Star],
+        b'/' => &[Sign::SlashAssign, Sign::Slash],
+        b'%' => &[Sign::PercentAssign, Sign::Percent],
+        b'^' => &[Sign::CaretAssign, Sign::Caret],
+        b'~' => &[Sign::Tilde],
+        b'(' => &[Sign::ParenOpen],
+        b')' => &[Sign::ParenClose],
+        b'{' => &[Sign::BraceOpen],
+        b'}' => &[Sign::BraceClose],
+        b'[' => &[Sign::BracketOpen],
+        b']' => &[Sign::BracketClose],
+        b',' => &[Sign::Comma],
+        b';' => &[Sign::Semicolon],
+        _ => &[],
+    }
 }
 
 /// The first of these signs that is written so.

@@ -1,7 +1,7 @@
 //! What a part of a program begins with, by its first token.
 ghost use Rattle.std.specs.Prelude.{◌≡◌, Option};
 ghost use Rattle.cm_syntax.specs.Token as machine;
-ghost use Rattle.cm_syntax.specs.Machine.{is_sign, is_word, sign_operator, update_operator};
+ghost use Rattle.cm_syntax.specs.Parser.{is_sign, is_word, sign_operator, update_operator};
 ghost use Rattle.cm_reader.specs.Next as next;
 
 use crate::token::{LocatedToken, Token};

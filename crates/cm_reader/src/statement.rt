@@ -1,12 +1,13 @@
 //! How statements are read.
-ghost use Rattle.std.specs.Prelude.{false, ◌≡◌, ◌≤◌, ◌<◌, ◌+◌, [], IfOk, IfErr, length};
+ghost use Rattle.std.specs.Prelude.{true, false, ◌≡◌, ◌≤◌, ◌<◌, ◌+◌, [], IfOk, IfErr, length};
 ghost use Rattle.cm_syntax.specs.declared.token.Sign.TheVariants.{BraceClose};
-ghost use Rattle.cm_syntax.specs.Machine.{State, body, spawned};
+ghost use Rattle.cm_syntax.specs.declared.token.Keyword.TheVariants.{Int};
+ghost use Rattle.cm_syntax.specs.Parser.{State, body, spawned};
 ghost use Rattle.cm_reader.specs.declared.start.FlatStart.TheVariants as flats;
 ghost use Rattle.cm_reader.specs.declared.start.StatementStart.TheVariants as starts;
 ghost use Rattle.cm_reader.specs.declared.start.StatementStart.TheVariants.{Flat};
 ghost use Rattle.cm_reader.specs.Next as next;
-ghost use Rattle.cm_reader.specs.Read.{Reads, Refuses, ReadsFlat, RefusesFlat, ReadsStatement, RefusesStatement, ReadsTurns, RefusesTurns, ReadsParts, RefusesParts, ReadsBlock, RefusesBlock, ReadsOther, RefusesOther};
+ghost use Rattle.cm_reader.specs.Read.{Reads, Refuses, ReadsFlat, RefusesFlat, ReadsStatement, RefusesStatement, ReadsTurns, RefusesTurns, first_turn, turn_test, last_turn, ReadsParts, RefusesParts, ReadsPlace, RefusesPlace, ReadsNames, RefusesNames, ReadsBlock, RefusesBlock, ReadsOther, RefusesOther, ReadsBranches, RefusesBranches};
 
 use crate::cursor::Reader;
 use crate::refusal::ReadRefusal;
@@ -164,6 +165,24 @@ impl Reader {
         Ok((statement_of(simple), rest))
     }
 
+    /// A declaration in a block at this depth.
+    fn declared_items<'a>(
+        self,
+        tokens: &'a [LocatedToken],
+        depth: u32,
+    ) -> Result<(Stmt<Name>, &'a [LocatedToken]), ReadRefusal>
+        requires more { next.is_next BraceClose tokens.now ≡ false }
+        requires int { next.is_next_word Int tokens.now ≡ true }
+        ensures shorter { IfOk result (λ read. length read.1.now < length tokens.now) }
+        ensures ok { IfOk result (λ read. ReadsStatement self.length depth tokens.now read.0 read.1.now) }
+        ensures err { IfErr result (RefusesStatement self.length depth tokens.now) }
+    {
+        let rest = self.accept(tokens, depth <= MAX_DEPTH)?;
+        let (items, rest) = self.declaration(rest)?;
+        let rest = self.sign(rest, Sign::Semicolon)?;
+        Ok((Stmt::Declare(items), rest))
+    }
+
     /// What follows the name that begins a statement.
     fn named_parts<'a>(
         self,
@@ -307,14 +326,53 @@ impl Reader {
         ensures ok { IfOk result (λ read. ReadsTurns self.length tokens.now read.0 read.1 read.2 read.3.now) }
         ensures err { IfErr result (RefusesTurns self.length tokens.now) }
     {
+        let (first, rest) = self.first_turn(tokens)?;
+        let (test, rest) = self.turn_test(rest)?;
+        let (step, rest) = self.last_turn(rest)?;
+        Ok((first, test, step, rest))
+    }
+
+    /// The first part of a `for`, between `(` and `;`.
+    fn first_turn<'a>(
+        self,
+        tokens: &'a [LocatedToken],
+    ) -> Result<(Boxed<Stmt<Name>>, &'a [LocatedToken]), ReadRefusal>
+        ensures shorter { IfOk result (λ read. length read.1.now < length tokens.now) }
+        ensures ok { IfOk result (λ read. Reads self.length first_turn tokens.now read.0 read.1.now) }
+        ensures err { IfErr result (Refuses self.length first_turn tokens.now) }
+    {
         let rest = self.sign(tokens, Sign::ParenOpen)?;
         let (first, rest) = self.first_part(rest)?;
         let rest = self.sign(rest, Sign::Semicolon)?;
-        let (test, rest) = self.optional_value(rest)?;
+        Ok((first, rest))
+    }
+
+    /// The condition of a `for`, if there is one, and `;`.
+    fn turn_test<'a>(
+        self,
+        tokens: &'a [LocatedToken],
+    ) -> Result<(Option<Expr<Name>>, &'a [LocatedToken]), ReadRefusal>
+        ensures shorter { IfOk result (λ read. length read.1.now < length tokens.now) }
+        ensures ok { IfOk result (λ read. Reads self.length turn_test tokens.now read.0 read.1.now) }
+        ensures err { IfErr result (Refuses self.length turn_test tokens.now) }
+    {
+        let (test, rest) = self.optional_value(tokens)?;
         let rest = self.sign(rest, Sign::Semicolon)?;
-        let (step, rest) = self.last_part(rest)?;
+        Ok((test, rest))
+    }
+
+    /// The last part of a `for`, and `)`.
+    fn last_turn<'a>(
+        self,
+        tokens: &'a [LocatedToken],
+    ) -> Result<(Boxed<Stmt<Name>>, &'a [LocatedToken]), ReadRefusal>
+        ensures shorter { IfOk result (λ read. length read.1.now < length tokens.now) }
+        ensures ok { IfOk result (λ read. Reads self.length last_turn tokens.now read.0 read.1.now) }
+        ensures err { IfErr result (Refuses self.length last_turn tokens.now) }
+    {
+        let (step, rest) = self.last_part(tokens)?;
         let rest = self.sign(rest, Sign::ParenClose)?;
-        Ok((first, test, step, rest))
+        Ok((step, rest))
     }
 
     /// What stands between `split` and its block: the array, the words of its left part, and the names of
@@ -335,15 +393,41 @@ impl Reader {
         ensures ok { IfOk result (λ read. ReadsParts self.length tokens.now read.0 read.1 read.2.0 read.2.1 read.3.now) }
         ensures err { IfErr result (RefusesParts self.length tokens.now) }
     {
+        let (whole, place, rest) = self.split_place(tokens)?;
+        let (left, right, rest) = self.part_names(rest)?;
+        Ok((whole, place, (left, right), rest))
+    }
+
+    /// The array of a `split` and the words of its left part, up to the word `as`.
+    fn split_place<'a>(
+        self,
+        tokens: &'a [LocatedToken],
+    ) -> Result<(Mark<Name>, Expr<Name>, &'a [LocatedToken]), ReadRefusal>
+        ensures shorter { IfOk result (λ read. length read.2.now < length tokens.now) }
+        ensures ok { IfOk result (λ read. ReadsPlace self.length tokens.now read.0 read.1 read.2.now) }
+        ensures err { IfErr result (RefusesPlace self.length tokens.now) }
+    {
         let (whole, rest) = self.name(tokens)?;
         let rest = self.word(rest, Keyword::At)?;
         let (place, rest) = self.value(rest)?;
         let rest = self.word(rest, Keyword::As)?;
-        let (left, rest) = self.name(rest)?;
+        Ok((whole, place, rest))
+    }
+
+    /// The names of the two parts, and `{`.
+    fn part_names<'a>(
+        self,
+        tokens: &'a [LocatedToken],
+    ) -> Result<(Mark<Name>, Mark<Name>, &'a [LocatedToken]), ReadRefusal>
+        ensures shorter { IfOk result (λ read. length read.2.now < length tokens.now) }
+        ensures ok { IfOk result (λ read. ReadsNames self.length tokens.now read.0 read.1 read.2.now) }
+        ensures err { IfErr result (RefusesNames self.length tokens.now) }
+    {
+        let (left, rest) = self.name(tokens)?;
         let rest = self.sign(rest, Sign::Comma)?;
         let (right, rest) = self.name(rest)?;
         let rest = self.sign(rest, Sign::BraceOpen)?;
-        Ok((whole, place, (left, right), rest))
+        Ok((left, right, rest))
     }
 }
 
@@ -388,10 +472,7 @@ impl Reader {
         ensures err { IfErr result (RefusesStatement self.length depth tokens.now) }
     {
         if is_next_word(tokens, Keyword::Int) {
-            let rest = self.accept(tokens, depth <= MAX_DEPTH)?;
-            let (items, rest) = self.declaration(rest)?;
-            let rest = self.sign(rest, Sign::Semicolon)?;
-            Ok((Stmt::Declare(items), rest))
+            self.declared_items(tokens, depth)
         } else {
             let (statement, rest) = self.plain(tokens, depth, depth + 1)?;
             Ok((statement, rest))
@@ -447,14 +528,15 @@ impl Reader {
         self,
         tokens: &'a [LocatedToken],
         depth: u32,
-    ) -> Result<(Stmt<Name>, &'a [LocatedToken]), ReadRefusal>
+    ) -> Result<(Boxed<Stmt<Name>>, &'a [LocatedToken]), ReadRefusal>
         requires { depth ≤ 64 }
         ensures shorter { IfOk result (λ read. length read.1.now < length tokens.now) }
         ensures ok { IfOk result (λ read. Reads self.length (body depth) tokens.now read.0 read.1.now) }
         ensures err { IfErr result (Refuses self.length (body depth) tokens.now) }
     {
-        let (statement, rest) = self.plain(tokens, depth + 1, depth + 1)?;
-        Ok((statement, rest))
+        let (inside, rest) = self.plain(tokens, depth + 1, depth + 1)?;
+        let body = Boxed::new(self.alloc, inside)?;
+        Ok((body, rest))
     }
 
     /// A statement that begins with `if`.
@@ -471,10 +553,32 @@ impl Reader {
     {
         let rest = self.accept(tokens, depth <= MAX_DEPTH)?;
         let (test, rest) = self.parenthesized(rest)?;
-        let (chosen, rest) = self.body(rest, depth)?;
-        let then = Boxed::new(self.alloc, chosen)?;
-        let (other, rest) = self.otherwise(rest, depth)?;
+        let (then, other, rest) = self.branches(rest, depth)?;
         Ok((Stmt::If { test, then, other }, rest))
+    }
+
+    /// The statement of an `if` at this depth, and its `else`, where there is one.
+    #[cycle(statement)]
+    fn branches<'a>(
+        self,
+        tokens: &'a [LocatedToken],
+        depth: u32,
+    ) -> Result<
+        (
+            Boxed<Stmt<Name>>,
+            Option<Boxed<Stmt<Name>>>,
+            &'a [LocatedToken],
+        ),
+        ReadRefusal,
+    >
+        requires { depth ≤ 64 }
+        ensures shorter { IfOk result (λ read. length read.2.now < length tokens.now) }
+        ensures ok { IfOk result (λ read. ReadsBranches self.length depth tokens.now read.0 read.1 read.2.now) }
+        ensures err { IfErr result (RefusesBranches self.length depth tokens.now) }
+    {
+        let (then, rest) = self.body(tokens, depth)?;
+        let (other, rest) = self.otherwise(rest, depth)?;
+        Ok((then, other, rest))
     }
 
     /// `else` and what follows it behind an `if` at this depth, or nothing.
@@ -491,8 +595,7 @@ impl Reader {
     {
         if is_next_word(tokens, Keyword::Else) {
             let rest = self.accept(tokens, true)?;
-            let (inside, rest) = self.body(rest, depth)?;
-            let other = Boxed::new(self.alloc, inside)?;
+            let (other, rest) = self.body(rest, depth)?;
             Ok((Some(other), rest))
         } else {
             Ok((None, tokens))
@@ -513,8 +616,7 @@ impl Reader {
     {
         let rest = self.accept(tokens, depth <= MAX_DEPTH)?;
         let (test, rest) = self.parenthesized(rest)?;
-        let (inside, rest) = self.body(rest, depth)?;
-        let body = Boxed::new(self.alloc, inside)?;
+        let (body, rest) = self.body(rest, depth)?;
         Ok((Stmt::While { test, body }, rest))
     }
 
@@ -532,8 +634,7 @@ impl Reader {
     {
         let rest = self.accept(tokens, depth <= MAX_DEPTH)?;
         let (first, test, step, rest) = self.turns(rest)?;
-        let (inside, rest) = self.body(rest, depth)?;
-        let body = Boxed::new(self.alloc, inside)?;
+        let (body, rest) = self.body(rest, depth)?;
         Ok((
             Stmt::For {
                 first,

@@ -1,7 +1,7 @@
 use Rattle.std.proofs.Common.{sym, ap, ◌∙◌, drop}
 use Rattle.cm_syntax.specs.Lexer.{has_end, block_length, sign_there}
 use Rattle.cm_reader.specs.Found.{capped_next}
-use Rattle.cm_reader.proofs.LexerLaws.{next_block, next_sign, capped_block, capped_sign}
+use Rattle.cm_reader.proofs.LexerLaw.{next_block, next_sign, capped_block, capped_sign}
 use Rattle.cm_reader.proofs.lexer.front.Goals as goal
 
 pub returns-then-is_pair-2 : goal.returns-then-is_pair-2

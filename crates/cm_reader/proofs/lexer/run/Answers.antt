@@ -2,9 +2,9 @@ use Rattle.std.proofs.Common.{sym, ap, ◌∙◌, arith, length-take}
 use Rattle.std.specs.Prelude.{option_map}
 use Rattle.cm_syntax.specs.Text.{is_word_byte}
 use Rattle.cm_syntax.specs.Lexer.{front, run_next, run_token}
-use Rattle.cm_syntax.specs.Machine.{capped_token}
+use Rattle.cm_syntax.specs.Parser.{capped_token}
 use Rattle.cm_reader.specs.Next.{token_of}
-use Rattle.cm_reader.proofs.LexerLaws.{front_within, front_taken, capped_run}
+use Rattle.cm_reader.proofs.LexerLaw.{front_within, front_taken, capped_run}
 use Rattle.cm_reader.proofs.lexer.run.Goals as goal
 
 pub slice_bounds-run_token-end : goal.slice_bounds-run_token-end

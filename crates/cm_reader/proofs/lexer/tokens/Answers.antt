@@ -1,10 +1,10 @@
 use Rattle.std.proofs.Common.{◌++◌, append-nil, sym, ap, ◌∙◌, arith}
 use Rattle.std.proofs.lemmas.List.{take_rest}
 use Rattle.cm_syntax.specs.Lexer.{next}
-use Rattle.cm_syntax.specs.Machine.{nested_tokens}
+use Rattle.cm_syntax.specs.Parser.{nested_tokens}
 use Rattle.cm_reader.specs.Next.{token_of, nested}
 use Rattle.cm_reader.specs.Found.{next_of, capped_next}
-use Rattle.cm_reader.proofs.LexerLaws.{left_skips, left_finds, left_fails, left_none, found_more, found_last, found_all, grown}
+use Rattle.cm_reader.proofs.LexerLaw.{left_skips, left_finds, left_fails, left_none, found_more, found_last, found_all, grown}
 use Rattle.cm_reader.proofs.lexer.tokens.Goals as goal
 
 pub overflow_add-at : goal.overflow_add-at

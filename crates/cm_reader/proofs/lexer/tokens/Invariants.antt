@@ -1,7 +1,7 @@
 use Rattle.std.proofs.Common.{◌≡◌, ◌≤◌, ◌-◌, ◌++◌, length}
-use Rattle.cm_syntax.specs.Machine.{nested_tokens}
+use Rattle.cm_syntax.specs.Parser.{nested_tokens}
 use Rattle.cm_reader.specs.Next.{nested}
-use Rattle.cm_reader.proofs.LexerLaws.{tokens_left}
+use Rattle.cm_reader.proofs.LexerLaw.{tokens_left}
 use Rattle.cm_reader.proofs.lexer.tokens.Given as goal
 
 -- with the tokens that are left, those that were found come to the whole

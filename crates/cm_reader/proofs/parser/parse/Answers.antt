@@ -1,8 +1,8 @@
-use Rattle.std.proofs.Common.{sym, ap, refl, ◌∙◌, ◌++◌, ◌∷◌, []}
-use Rattle.cm_syntax.specs.Machine.{State}
+use Rattle.std.proofs.Common.{sym, ap, ◌∙◌, ◌++◌, ◌∷◌, []}
+use Rattle.cm_syntax.specs.Parser.{State}
 use Rattle.cm_reader.specs.Read.{answer}
-use Rattle.cm_reader.proofs.StepLaws.{err_same, refused_on, ok_map, err_map}
-use Rattle.cm_reader.proofs.FunctionLaws.{functions_go_on, functions_finish}
+use Rattle.cm_reader.proofs.StepLaw.{err_same, refused_on, ok_map, err_map}
+use Rattle.cm_reader.proofs.FunctionLaw.{functions_go_on, functions_finish}
 use Rattle.cm_reader.proofs.parser.parse.Goals as goal
 
 pub returns-in_err-function-clause-err : goal.returns-in_err-function-clause-err

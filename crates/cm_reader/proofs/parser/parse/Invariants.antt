@@ -1,5 +1,5 @@
 use Rattle.std.proofs.Common.{◌≡◌, length}
-use Rattle.cm_syntax.specs.Machine.{State, start}
+use Rattle.cm_syntax.specs.Parser.{State, start}
 use Rattle.cm_reader.specs.Read.{answer}
 use Rattle.cm_reader.proofs.parser.parse.Given as goal
 

@@ -6,8 +6,8 @@ use Rattle.cm_syntax.specs.declared.token.Sign.TheVariants as sign
 use Rattle.cm_syntax.specs.declared.token.Keyword.TheVariants as keyword
 use Rattle.cm_syntax.specs.Canonical.{word_token, sign_token, name_token, own_level, parenthesize, expression_text, argument_text}
 use Rattle.cm_reader.specs.Spaced.{spaced}
-use Rattle.cm_reader.proofs.SpacedLaws.{put_both, put_three, put_four, separated_step, separated_end}
-use Rattle.cm_reader.proofs.PrinterLaws.{text_of_Index, text_of_brackets, text_of_Input, text_of_Unary, text_of_Binary, arguments_of}
+use Rattle.cm_reader.proofs.SpacedLaw.{put_both, put_three, put_four, separated_step, separated_end}
+use Rattle.cm_reader.proofs.PrinterLaw.{text_of_Index, text_of_brackets, text_of_Input, text_of_Unary, text_of_Binary, arguments_of}
 use Rattle.cm_syntax.proofs.printing.TextLaw.{listed, text-Call}
 use Rattle.cm_reader.proofs.printer.+expression.Goals as goal
 

@@ -2,7 +2,7 @@ use Rattle.std.proofs.Common.{◌≡◌, ◌++◌, true, drop}
 use Rattle.std.specs.Prelude.{◌==◌}
 use Rattle.cm_syntax.specs.Canonical.{argument_text}
 use Rattle.cm_reader.specs.Spaced.{spaced}
-use Rattle.cm_reader.proofs.SpacedLaws.{separated}
+use Rattle.cm_reader.proofs.SpacedLaw.{separated}
 use Rattle.cm_reader.proofs.printer.+expression.Given as goal
 
 -- with the arguments that are left, what was put comes to the whole

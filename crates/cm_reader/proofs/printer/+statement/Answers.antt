@@ -4,8 +4,8 @@ use Rattle.cm_syntax.specs.declared.token.Sign.TheVariants as sign
 use Rattle.cm_syntax.specs.declared.stmt.Stmt.TheVariants as statement
 use Rattle.cm_syntax.specs.Canonical.{word_token, sign_token, statement_text, body_text}
 use Rattle.cm_reader.specs.Spaced.{spaced, block, head}
-use Rattle.cm_reader.proofs.SpacedLaws.{put_both, put_three, put_four, list_step, list_end}
-use Rattle.cm_reader.proofs.PrinterLaws.{body_lists, text_of_IfAlone, text_of_IfElse, text_of_While, text_of_For, text_of_Split, text_of_Block, text_of_line, put_last}
+use Rattle.cm_reader.proofs.SpacedLaw.{put_both, put_three, put_four, list_step, list_end}
+use Rattle.cm_reader.proofs.PrinterLaw.{body_lists, text_of_IfAlone, text_of_IfElse, text_of_While, text_of_For, text_of_Split, text_of_Block, text_of_line, put_last}
 use Rattle.cm_reader.proofs.printer.+statement.Goals as goal
 
 pub put_block-loop-statement-preserved : goal.put_block-loop-statement-preserved

@@ -1,4 +1,4 @@
-use Rattle.cm_reader.proofs.PrinterLaws.{level_of_Unary, level_of_Binary}
+use Rattle.cm_reader.proofs.PrinterLaw.{level_of_Unary, level_of_Binary}
 use Rattle.cm_reader.proofs.printer.own_level.Goals as goal
 
 pub returns-in-Unary : goal.returns-in-Unary

@@ -1,6 +1,6 @@
 use Rattle.cm_syntax.specs.Canonical.{function_text, functions_text}
-use Rattle.cm_reader.proofs.SpacedLaws.{list_step, list_end}
-use Rattle.cm_reader.proofs.PrinterLaws.{functions_lists}
+use Rattle.cm_reader.proofs.SpacedLaw.{list_step, list_end}
+use Rattle.cm_reader.proofs.PrinterLaw.{functions_lists}
 use Rattle.cm_reader.proofs.printer.put_functions.Goals as goal
 
 pub loop-function-preserved : goal.loop-function-preserved

@@ -1,4 +1,4 @@
-use Rattle.cm_reader.proofs.PrinterLaws.{head_of_For}
+use Rattle.cm_reader.proofs.PrinterLaw.{head_of_For}
 use Rattle.cm_reader.proofs.printer.put_head.Goals as goal
 
 pub returns-in-For : goal.returns-in-For

@@ -1,8 +1,8 @@
 use Rattle.std.proofs.Common.{◌++◌, ap, ◌∙◌}
 use Rattle.cm_syntax.specs.Canonical.{item_text}
 use Rattle.cm_reader.specs.Spaced.{spaced}
-use Rattle.cm_reader.proofs.SpacedLaws.{separated_step, separated_end}
-use Rattle.cm_reader.proofs.PrinterLaws.{items_of}
+use Rattle.cm_reader.proofs.SpacedLaw.{separated_step, separated_end}
+use Rattle.cm_reader.proofs.PrinterLaw.{items_of}
 use Rattle.cm_reader.proofs.printer.put_items.Goals as goal
 
 pub loop-index-preserved : goal.loop-index-preserved

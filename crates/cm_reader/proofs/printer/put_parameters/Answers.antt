@@ -1,7 +1,7 @@
 use Rattle.std.proofs.Common.{◌++◌, ap, ◌∙◌}
 use Rattle.cm_reader.specs.Spaced.{spaced}
-use Rattle.cm_reader.proofs.SpacedLaws.{separated_step, separated_end}
-use Rattle.cm_reader.proofs.PrinterLaws.{parameter_text, parameters_of}
+use Rattle.cm_reader.proofs.SpacedLaw.{separated_step, separated_end}
+use Rattle.cm_reader.proofs.PrinterLaw.{parameter_text, parameters_of}
 use Rattle.cm_reader.proofs.printer.put_parameters.Goals as goal
 
 pub loop-index-preserved : goal.loop-index-preserved

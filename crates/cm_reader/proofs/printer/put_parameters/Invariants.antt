@@ -1,8 +1,8 @@
 use Rattle.std.proofs.Common.{◌≡◌, ◌++◌, true, drop}
 use Rattle.std.specs.Prelude.{◌==◌}
-use Rattle.cm_reader.proofs.PrinterLaws.{parameter_text}
+use Rattle.cm_reader.proofs.PrinterLaw.{parameter_text}
 use Rattle.cm_reader.specs.Spaced.{spaced}
-use Rattle.cm_reader.proofs.SpacedLaws.{separated}
+use Rattle.cm_reader.proofs.SpacedLaw.{separated}
 use Rattle.cm_reader.proofs.printer.put_parameters.Given as goal
 
 -- with the items that are left, what was put comes to the whole

@@ -3,7 +3,7 @@ use Rattle.cm_syntax.specs.Canonical.{functions_text, canonical}
 use Rattle.cm_syntax.proofs.printing.ProgramPrinting.{canonical_reads_back}
 use Rattle.cm_reader.specs.Spaced.{spaced}
 use Rattle.cm_reader.specs.ReadBack.{ReadsBack}
-use Rattle.cm_reader.proofs.PrinterLaws.{last_taken}
+use Rattle.cm_reader.proofs.PrinterLaw.{last_taken}
 use Rattle.cm_reader.proofs.printer.write.Goals as goal
 
 pub returns : goal.returns

@@ -1,5 +1,5 @@
 use Rattle.std.proofs.Common.{◌∙◌, arith}
-use Rattle.cm_reader.proofs.ScanLaws.{no_end_at}
+use Rattle.cm_reader.proofs.ScanLaw.{no_end_at}
 use Rattle.cm_reader.proofs.scan.block_length.Goals as goal
 
 pub loop-index-preserved : goal.loop-index-preserved

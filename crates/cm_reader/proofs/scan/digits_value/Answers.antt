@@ -1,5 +1,5 @@
 use Rattle.std.proofs.Common.{arith}
-use Rattle.cm_reader.proofs.ScanLaws.{digit_more, digit_at}
+use Rattle.cm_reader.proofs.ScanLaw.{digit_more, digit_at}
 use Rattle.cm_reader.proofs.scan.digits_value.Goals as goal
 
 pub with_digit-value-requires : goal.with_digit-value-requires

@@ -1,6 +1,6 @@
 use Rattle.std.specs.Prelude.{IfErr, Ok, Err}
 use Rattle.cm_reader.specs.Answer.{IsRefusalOf, refusal_of, Gives}
-use Rattle.cm_reader.proofs.SourceLaws.{handed_on, read_functions, read_refusal, tree_read, refusal_or_tree, tree_or_refusal, refusal_read, read_written}
+use Rattle.cm_reader.proofs.SourceLaw.{handed_on, read_functions, read_refusal, tree_read, refusal_or_tree, tree_or_refusal, refusal_read, read_written}
 use Rattle.cm_reader.proofs.source.read.Goals as goal
 
 pub returns-in_err-functions-clause-refusal : goal.returns-in_err-functions-clause-refusal

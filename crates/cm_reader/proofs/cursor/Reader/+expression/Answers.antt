@@ -1,15 +1,14 @@
-use Rattle.std.proofs.Common.{sym, ap, refl, ◌∙◌, ◌++◌, ◌∷◌, [], true, arith, pos}
+use Rattle.std.proofs.Common.{sym, ap, refl, ◌∙◌, ◌++◌, ◌∷◌, [], true, arith}
 use Rattle.std.proofs.lemmas.Bool.{ltb-true}
 use Rattle.cm_syntax.specs.declared.expr.Expr.TheVariants as expression
 use Rattle.cm_syntax.specs.declared.expr.Arg.TheVariants as argument
-use Rattle.cm_syntax.specs.declared.token.Sign.TheVariants as sign
 use Rattle.cm_syntax.specs.ParseTree.{level_of}
 use Rattle.cm_syntax.specs.Yield.{Quantity}
-use Rattle.cm_syntax.specs.Machine.{State, whole}
+use Rattle.cm_syntax.specs.Parser.{State}
 use Rattle.cm_reader.specs.declared.start.PrimaryStart.TheVariants as primary
 use Rattle.cm_reader.specs.Read.{answer}
-use Rattle.cm_reader.proofs.StepLaws.{err_same, refused_on, ok_map, err_map}
-use Rattle.cm_reader.proofs.ExpressionLaws.{literal_same, operator_goes, operators_end, prefix_goes, primary_goes, primary_name, primary_group, primary_stuck, index_goes, call_goes, scalar_same, no_argument_goes, first_argument_same, address_goes, value_same, argument_comma_goes, arguments_end}
+use Rattle.cm_reader.proofs.StepLaw.{err_same, refused_on, ok_map, err_map}
+use Rattle.cm_reader.proofs.ExpressionLaw.{operator_goes, operators_end, prefix_goes, primary_goes, primary_name, primary_group, primary_stuck, index_goes, call_goes, scalar_same, no_argument_goes, first_argument_same, address_goes, value_same, argument_comma_goes, arguments_end}
 use Rattle.cm_reader.proofs.cursor.Reader.+expression.Goals as goal
 
 pub argument-returns-in_err-rest-clause-err : goal.argument-returns-in_err-rest-clause-err
@@ -149,18 +148,9 @@ pub operand-returns-clause-ok : goal.operand-returns-clause-ok
 operand-returns-clause-ok t c =
     λ k. c.in_ok-rest.ensures.ok (State.operand c.args.operators k) _ (prefix_goes c.args.operators k c.in-Some.op c.args.tokens.now (sym c.unary_operator.ensures ∙ c.in-Some.is)) ∙ (c.in_ok-operand.ensures.ok (λ e m. k (expression.Unary c.in-Some.op e) m) ∙ ap (λ e. answer c.args.self.length (k (expression.Unary c.in-Some.op e) c.in_ok-operand.count) c.in_ok-operand.rest.now) (sym c.in_ok-new.ensures))
 
-pub primary-returns-in_err-rest-in-Number-clause-err : goal.primary-returns-in_err-rest-in-Number-clause-err
-primary-returns-in_err-rest-in-Number-clause-err t c =
-    err_same _ c.from_residual.result c.in_err-rest-in-Number.field-0.0 c.from_residual.ensures.1
-    (λ n k. c.in_err-rest-in-Number.ensures.err (State.operand n k) _ (primary_goes n k c.args.tokens.now (primary.Number c.in-Number.literal) (Quantity.literal c.in-Number.literal) _ _ c.requires (sym c.primary_start.ensures ∙ c.in-Number.is) (λ token at. refl) refl))
-
-pub primary-returns-in_ok-rest-in-Number-clause-ok : goal.primary-returns-in_ok-rest-in-Number-clause-ok
-primary-returns-in_ok-rest-in-Number-clause-ok t c =
-    λ n k. c.in_ok-rest-in-Number.ensures.ok (State.operand n k) _ (primary_goes n k c.args.tokens.now (primary.Number c.in-Number.literal) (Quantity.literal c.in-Number.literal) _ _ c.requires (sym c.primary_start.ensures ∙ c.in-Number.is) (λ token at. refl) refl) ∙ ap (λ z. answer c.args.self.length (k (expression.Number z) n) c.in_ok-rest-in-Number.rest.now) (sym (literal_same c.in-Number.literal c.in_ok-rest-in-Number.ensures.within))
-
 pub primary-returns-in_err-name-in-Name-clause-err : goal.primary-returns-in_err-name-in-Name-clause-err
 primary-returns-in_err-name-in-Name-clause-err t c =
-    err_same _ c.from_residual-in_err-name-in-Name.result c.in_err-name-in-Name.field-0.0 c.from_residual-in_err-name-in-Name.ensures.1
+    err_same _ c.from_residual.result c.in_err-name-in-Name.field-0.0 c.from_residual.ensures.1
     (λ n k. c.in_err-name-in-Name.ensures.err (State.operand n k) (λ x. State.operand_name x n k) (primary_name n k c.args.tokens.now (sym c.primary_start.ensures ∙ c.in-Name.is)))
 
 pub primary-returns-in_ok-name-in-Name-clause-ok : goal.primary-returns-in_ok-name-in-Name-clause-ok
@@ -171,20 +161,6 @@ pub primary-returns-in_ok-name-in-Name-clause-err : goal.primary-returns-in_ok-n
 primary-returns-in_ok-name-in-Name-clause-err t c =
     err_map c.named_operand.result (λ refusal h n k. refused_on _ (c.in_ok-name-in-Name.ensures.ok (State.operand n k) (λ x. State.operand_name x n k) (primary_name n k c.args.tokens.now (sym c.primary_start.ensures ∙ c.in-Name.is))) (h n k)) c.named_operand.ensures.err
 
-pub primary-returns-in_err-rest-in-Pointee-clause-err : goal.primary-returns-in_err-rest-in-Pointee-clause-err
-primary-returns-in_err-rest-in-Pointee-clause-err t c =
-    err_same _ c.from_residual-in_err-rest-in-Pointee.result c.in_err-rest-in-Pointee.field-0.0 c.from_residual-in_err-rest-in-Pointee.ensures.1
-    (λ n k. c.in_err-rest-in-Pointee.ensures.err (State.operand n k) _ (primary_goes n k c.args.tokens.now primary.Pointee Quantity.nothing _ true c.requires (sym c.primary_start.ensures ∙ c.in-Pointee.is) (λ token at. refl) refl))
-
-pub primary-returns-in_err-name-in-Pointee-clause-err : goal.primary-returns-in_err-name-in-Pointee-clause-err
-primary-returns-in_err-name-in-Pointee-clause-err t c =
-    err_same _ c.from_residual-in_err-name-in-Pointee.result c.in_err-name-in-Pointee.field-0.0 c.from_residual-in_err-name-in-Pointee.ensures.1
-    (λ n k. refused_on _ (c.in_ok-rest-in-Pointee.ensures.ok (State.operand n k) _ (primary_goes n k c.args.tokens.now primary.Pointee Quantity.nothing _ true c.requires (sym c.primary_start.ensures ∙ c.in-Pointee.is) (λ token at. refl) refl)) (c.in_err-name-in-Pointee.ensures.err (λ p. k (expression.Index p (expression.Number (pos 0))) n)))
-
-pub primary-returns-in_ok-first-in-Pointee-clause-ok : goal.primary-returns-in_ok-first-in-Pointee-clause-ok
-primary-returns-in_ok-first-in-Pointee-clause-ok t c =
-    λ n k. c.in_ok-rest-in-Pointee.ensures.ok (State.operand n k) _ (primary_goes n k c.args.tokens.now primary.Pointee Quantity.nothing _ true c.requires (sym c.primary_start.ensures ∙ c.in-Pointee.is) (λ token at. refl) refl) ∙ (c.in_ok-name-in-Pointee.ensures.ok (λ p. k (expression.Index p (expression.Number (pos 0))) n) ∙ ap (λ e. answer c.args.self.length (k (expression.Index c.in_ok-name-in-Pointee.name e) n) c.in_ok-name-in-Pointee.rest.now) (sym c.in_ok-first-in-Pointee.ensures))
-
 pub primary-returns-in-Group-clause-ok : goal.primary-returns-in-Group-clause-ok
 primary-returns-in-Group-clause-ok t c =
     ok_map c.parenthesized.result (λ read h n k. primary_group c.args.self.length n k c.args.tokens.now c.requires (sym c.primary_start.ensures ∙ c.in-Group.is) ∙ h (λ e. k e n)) c.parenthesized.ensures.ok
@@ -193,53 +169,24 @@ pub primary-returns-in-Group-clause-err : goal.primary-returns-in-Group-clause-e
 primary-returns-in-Group-clause-err t c =
     err_map c.parenthesized.result (λ refusal h n k. refused_on _ (primary_group c.args.self.length n k c.args.tokens.now c.requires (sym c.primary_start.ensures ∙ c.in-Group.is)) (h (λ e. k e n))) c.parenthesized.ensures.err
 
-pub primary-returns-in_err-rest-in-Len-clause-err : goal.primary-returns-in_err-rest-in-Len-clause-err
-primary-returns-in_err-rest-in-Len-clause-err t c =
-    err_same _ c.from_residual-in_err-rest-in-Len.result c.in_err-rest-in-Len.field-0.0 c.from_residual-in_err-rest-in-Len.ensures.1
-    (λ n k. c.in_err-rest-in-Len.ensures.err (State.operand n k) _ (primary_goes n k c.args.tokens.now primary.Len Quantity.nothing _ true c.requires (sym c.primary_start.ensures ∙ c.in-Len.is) (λ token at. refl) refl))
+pub input-returns-in_err-rest-clause-err : goal.input-returns-in_err-rest-clause-err
+input-returns-in_err-rest-clause-err t c =
+    err_same _ c.from_residual.result c.in_err-rest.field-0.0 c.from_residual.ensures.1
+    (λ n k. c.in_err-rest.ensures.err (State.operand n k) _ (primary_goes n k c.args.tokens.now primary.Input Quantity.nothing _ true c.requires.none c.requires.start (λ token at. refl) refl))
 
-pub primary-returns-in_err-name-in-Len-clause-err : goal.primary-returns-in_err-name-in-Len-clause-err
-primary-returns-in_err-name-in-Len-clause-err t c =
-    err_same _ c.from_residual-in_err-name-in-Len.result c.in_err-name-in-Len.field-0.0 c.from_residual-in_err-name-in-Len.ensures.1
-    (λ n k. refused_on _ (c.in_ok-rest-in-Len.ensures.ok (State.operand n k) _ (primary_goes n k c.args.tokens.now primary.Len Quantity.nothing _ true c.requires (sym c.primary_start.ensures ∙ c.in-Len.is) (λ token at. refl) refl)) (c.in_err-name-in-Len.ensures.err (λ a. k (expression.Len a) n)))
+pub input-returns-in_err-place-clause-err : goal.input-returns-in_err-place-clause-err
+input-returns-in_err-place-clause-err t c =
+    err_same _ c.from_residual-in_err-place.result c.in_err-place.field-0.0 c.from_residual-in_err-place.ensures.1
+    (λ n k. refused_on _ (c.in_ok-rest.ensures.ok (State.operand n k) _ (primary_goes n k c.args.tokens.now primary.Input Quantity.nothing _ true c.requires.none c.requires.start (λ token at. refl) refl)) (c.in_err-place.ensures.err (λ e. k (expression.Input e) n)))
 
-pub primary-returns-in_ok-name-in-Len-clause-ok : goal.primary-returns-in_ok-name-in-Len-clause-ok
-primary-returns-in_ok-name-in-Len-clause-ok t c =
-    λ n k. c.in_ok-rest-in-Len.ensures.ok (State.operand n k) _ (primary_goes n k c.args.tokens.now primary.Len Quantity.nothing _ true c.requires (sym c.primary_start.ensures ∙ c.in-Len.is) (λ token at. refl) refl) ∙ c.in_ok-name-in-Len.ensures.ok (λ a. k (expression.Len a) n)
-
-pub primary-returns-in_err-rest-in-Input-clause-err : goal.primary-returns-in_err-rest-in-Input-clause-err
-primary-returns-in_err-rest-in-Input-clause-err t c =
-    err_same _ c.from_residual-in_err-rest-in-Input.result c.in_err-rest-in-Input.field-0.0 c.from_residual-in_err-rest-in-Input.ensures.1
-    (λ n k. c.in_err-rest-in-Input.ensures.err (State.operand n k) _ (primary_goes n k c.args.tokens.now primary.Input Quantity.nothing _ true c.requires (sym c.primary_start.ensures ∙ c.in-Input.is) (λ token at. refl) refl))
-
-pub primary-returns-in_err-place-in-Input-clause-err : goal.primary-returns-in_err-place-in-Input-clause-err
-primary-returns-in_err-place-in-Input-clause-err t c =
-    err_same _ c.from_residual-in_err-place-in-Input.result c.in_err-place-in-Input.field-0.0 c.from_residual-in_err-place-in-Input.ensures.1
-    (λ n k. refused_on _ (c.in_ok-rest-in-Input.ensures.ok (State.operand n k) _ (primary_goes n k c.args.tokens.now primary.Input Quantity.nothing _ true c.requires (sym c.primary_start.ensures ∙ c.in-Input.is) (λ token at. refl) refl)) (c.in_err-place-in-Input.ensures.err (λ e. k (expression.Input e) n)))
-
-pub primary-returns-in_ok-new-in-Input-clause-ok : goal.primary-returns-in_ok-new-in-Input-clause-ok
-primary-returns-in_ok-new-in-Input-clause-ok t c =
-    λ n k. c.in_ok-rest-in-Input.ensures.ok (State.operand n k) _ (primary_goes n k c.args.tokens.now primary.Input Quantity.nothing _ true c.requires (sym c.primary_start.ensures ∙ c.in-Input.is) (λ token at. refl) refl) ∙ (c.in_ok-place-in-Input.ensures.ok (λ e. k (expression.Input e) n) ∙ ap (λ e. answer c.args.self.length (k (expression.Input e) n) c.in_ok-place-in-Input.rest.now) (sym c.in_ok-new-in-Input.ensures))
-
-pub primary-returns-in_err-rest-in-Inputs-clause-err : goal.primary-returns-in_err-rest-in-Inputs-clause-err
-primary-returns-in_err-rest-in-Inputs-clause-err t c =
-    err_same _ c.from_residual-in_err-rest-in-Inputs.result c.in_err-rest-in-Inputs.field-0.0 c.from_residual-in_err-rest-in-Inputs.ensures.1
-    (λ n k. c.in_err-rest-in-Inputs.ensures.err (State.operand n k) _ (primary_goes n k c.args.tokens.now primary.Inputs Quantity.nothing _ true c.requires (sym c.primary_start.ensures ∙ c.in-Inputs.is) (λ token at. refl) refl))
-
-pub primary-returns-in_err-rest-in-Inputs-2-clause-err : goal.primary-returns-in_err-rest-in-Inputs-2-clause-err
-primary-returns-in_err-rest-in-Inputs-2-clause-err t c =
-    err_same _ c.from_residual-in_err-rest-in-Inputs-2.result c.in_err-rest-in-Inputs-2.field-0.0 c.from_residual-in_err-rest-in-Inputs-2.ensures.1
-    (λ n k. refused_on _ (c.in_ok-rest-in-Inputs.ensures.ok (State.operand n k) _ (primary_goes n k c.args.tokens.now primary.Inputs Quantity.nothing _ true c.requires (sym c.primary_start.ensures ∙ c.in-Inputs.is) (λ token at. refl) refl)) (c.in_err-rest-in-Inputs-2.ensures.err (State.sign_next sign.ParenClose (k expression.Inputs n))))
-
-pub primary-returns-in_err-rest-in-Inputs-3-clause-err : goal.primary-returns-in_err-rest-in-Inputs-3-clause-err
-primary-returns-in_err-rest-in-Inputs-3-clause-err t c =
-    err_same _ c.from_residual-in_err-rest-in-Inputs-3.result c.in_err-rest-in-Inputs-3.field-0.0 c.from_residual-in_err-rest-in-Inputs-3.ensures.1
-    (λ n k. refused_on _ (c.in_ok-rest-in-Inputs.ensures.ok (State.operand n k) _ (primary_goes n k c.args.tokens.now primary.Inputs Quantity.nothing _ true c.requires (sym c.primary_start.ensures ∙ c.in-Inputs.is) (λ token at. refl) refl) ∙ c.in_ok-rest-in-Inputs-2.ensures.ok (State.sign_next sign.ParenClose (k expression.Inputs n))) (c.in_err-rest-in-Inputs-3.ensures.err (k expression.Inputs n)))
-
-pub primary-returns-in_ok-rest-in-Inputs-3-clause-ok : goal.primary-returns-in_ok-rest-in-Inputs-3-clause-ok
-primary-returns-in_ok-rest-in-Inputs-3-clause-ok t c =
-    λ n k. c.in_ok-rest-in-Inputs.ensures.ok (State.operand n k) _ (primary_goes n k c.args.tokens.now primary.Inputs Quantity.nothing _ true c.requires (sym c.primary_start.ensures ∙ c.in-Inputs.is) (λ token at. refl) refl) ∙ (c.in_ok-rest-in-Inputs-2.ensures.ok (State.sign_next sign.ParenClose (k expression.Inputs n)) ∙ c.in_ok-rest-in-Inputs-3.ensures.ok (k expression.Inputs n))
+pub input-returns-clause-ok : goal.input-returns-clause-ok
+input-returns-clause-ok t c =
+    λ n k. c.in_ok-rest.ensures.ok (State.operand n k) _ (primary_goes n k c.args.tokens.now primary.Input Quantity.nothing _ true c.requires.none c.requires.start (λ token at. refl) refl) ∙ (c.in_ok-place.ensures.ok (λ e. k (expression.Input e) n) ∙ ap (λ e. answer c.args.self.length (k (expression.Input e) n) c.in_ok-place.rest.now) (sym c.in_ok-new.ensures))
 
 pub primary-returns-in-Nothing-clause-err : goal.primary-returns-in-Nothing-clause-err
 primary-returns-in-Nothing-clause-err t c =
     λ n k. c.refuse.ensures (State.operand n k) (primary_stuck n k c.args.tokens.now c.requires (sym c.primary_start.ensures ∙ c.in-Nothing.is))
+
+pub primary-number-requires : goal.primary-number-requires
+primary-number-requires t c =
+    record { none = c.requires; start = sym c.primary_start.ensures ∙ c.in-Number.is }

@@ -2,7 +2,7 @@ use Rattle.std.proofs.Common.{◌≡◌, ◌≤◌, ◌<◌, ◌+◌, ◌*◌, �
 use Rattle.cm_syntax.specs.declared.name.Name.{Name}
 use Rattle.cm_syntax.specs.declared.expr.Expr.{Expr}
 use Rattle.cm_syntax.specs.declared.expr.Arg.{Arg}
-use Rattle.cm_syntax.specs.Machine.{State, whole}
+use Rattle.cm_syntax.specs.Parser.{State, whole}
 use Rattle.cm_reader.specs.Read.{answer}
 use Rattle.cm_reader.proofs.cursor.Reader.+expression.Given as goal
 
@@ -11,6 +11,9 @@ decreases-parenthesized l = 8 * length l.tokens.now
 
 abbrev pub decreases-named_operand : goal.decreases-named_operand
 decreases-named_operand l = 8 * length l.tokens.now + 7
+
+abbrev pub decreases-input : goal.decreases-input
+decreases-input l = 8 * length l.tokens.now
 
 abbrev pub decreases-primary : goal.decreases-primary
 decreases-primary l = 8 * length l.tokens.now + 1

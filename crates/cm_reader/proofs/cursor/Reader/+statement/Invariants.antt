@@ -1,8 +1,8 @@
-use Rattle.std.proofs.Common.{◌≡◌, ◌≤◌, ◌<◌, ◌+◌, ◌*◌, [], List, length}
+use Rattle.std.proofs.Common.{◌≡◌, ◌≤◌, ◌+◌, ◌*◌, [], List, length}
 use Rattle.cm_syntax.specs.declared.name.Name.{Name}
 use Rattle.cm_syntax.specs.declared.stmt.Stmt.{Stmt}
 use Rattle.cm_syntax.specs.ParseTree.{Offset}
-use Rattle.cm_syntax.specs.Machine.{State}
+use Rattle.cm_syntax.specs.Parser.{State}
 use Rattle.cm_reader.specs.Read.{answer}
 use Rattle.cm_reader.proofs.cursor.Reader.+statement.Given as goal
 
@@ -29,6 +29,9 @@ decreases-plain l = 8 * length l.tokens.now + 1
 
 abbrev pub decreases-body : goal.decreases-body
 decreases-body l = 8 * length l.tokens.now + 2
+
+abbrev pub decreases-branches : goal.decreases-branches
+decreases-branches l = 8 * length l.tokens.now + 3
 
 abbrev pub decreases-statement : goal.decreases-statement
 decreases-statement l = 8 * length l.tokens.now + 3

@@ -1,5 +1,4 @@
-use Rattle.std.proofs.Common.{refl}
-use Rattle.cm_reader.proofs.StepLaws.{err_same, name_goes}
+use Rattle.cm_reader.proofs.StepLaw.{err_same, name_goes}
 use Rattle.cm_reader.proofs.cursor.Reader.counted_name.Goals as goal
 
 pub returns-in_err-rest-clause-err : goal.returns-in_err-rest-clause-err

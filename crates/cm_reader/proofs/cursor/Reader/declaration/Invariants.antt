@@ -1,7 +1,7 @@
 use Rattle.std.proofs.Common.{◌≡◌, ◌<◌, [], List, length}
 use Rattle.cm_syntax.specs.declared.name.Name.{Name}
 use Rattle.cm_syntax.specs.declared.stmt.Item.{Item}
-use Rattle.cm_syntax.specs.Machine.{State, declarator}
+use Rattle.cm_syntax.specs.Parser.{State, declarator}
 use Rattle.cm_reader.specs.Read.{answer}
 use Rattle.cm_reader.proofs.cursor.Reader.declaration.Given as goal
 

@@ -1,14 +1,7 @@
-use Rattle.std.proofs.Common.{sym, ap, refl, ◌∙◌, ◌++◌, ◌∷◌, [], true, false, arith, pos, Option, None, Some}
-use Rattle.cm_syntax.specs.declared.stmt.Stmt.TheVariants as statement
-use Rattle.cm_syntax.specs.declared.stmt.Target.TheVariants as target
-use Rattle.cm_syntax.specs.declared.stmt.Slot.TheVariants as slot
-use Rattle.cm_syntax.specs.declared.token.Sign.TheVariants as sign
-use Rattle.cm_syntax.specs.declared.token.Keyword.TheVariants as keyword
+use Rattle.std.proofs.Common.{sym, refl, ◌∙◌}
 use Rattle.cm_syntax.specs.Yield.{Quantity}
-use Rattle.cm_syntax.specs.Machine.{State, item, count_on, with_semicolon, function_of}
-use Rattle.cm_reader.specs.Read.{answer}
-use Rattle.cm_reader.proofs.StepLaws.{err_same, refused_on, ok_map, err_map}
-use Rattle.cm_reader.proofs.StatementLaws.{no_last_same, last_simple_same}
+use Rattle.cm_reader.proofs.StepLaw.{err_same, refused_on}
+use Rattle.cm_reader.proofs.StatementLaw.{no_last_same, last_simple_same}
 use Rattle.cm_reader.proofs.cursor.Reader.last_part.Goals as goal
 
 pub returns-in_ok-empty-clause-ok : goal.returns-in_ok-empty-clause-ok

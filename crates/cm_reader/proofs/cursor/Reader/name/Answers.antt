@@ -1,5 +1,5 @@
-use Rattle.cm_reader.proofs.StepLaws.{ok_map, err_map, next_takes_name}
-use Rattle.cm_syntax.specs.Machine.{State}
+use Rattle.cm_reader.proofs.StepLaw.{ok_map, err_map, next_takes_name}
+use Rattle.cm_syntax.specs.Parser.{State}
 use Rattle.cm_reader.proofs.cursor.Reader.name.Goals as goal
 
 pub returns-clause-ok : goal.returns-clause-ok

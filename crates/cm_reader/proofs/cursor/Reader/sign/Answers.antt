@@ -1,5 +1,5 @@
 use Rattle.std.proofs.Common.{sym, ◌∙◌}
-use Rattle.cm_reader.proofs.StepLaws.{ok_map, err_map, sign_goes}
+use Rattle.cm_reader.proofs.StepLaw.{ok_map, err_map, sign_goes}
 use Rattle.cm_reader.proofs.cursor.Reader.sign.Goals as goal
 
 pub returns-then-is_next-clause-ok : goal.returns-then-is_next-clause-ok

@@ -1,14 +1,8 @@
-use Rattle.std.proofs.Common.{sym, ap, refl, ◌∙◌, ◌++◌, ◌∷◌, [], true, false, arith, pos, Option, None, Some}
-use Rattle.cm_syntax.specs.declared.stmt.Stmt.TheVariants as statement
+use Rattle.std.proofs.Common.{sym, ◌∙◌}
 use Rattle.cm_syntax.specs.declared.stmt.Target.TheVariants as target
-use Rattle.cm_syntax.specs.declared.stmt.Slot.TheVariants as slot
-use Rattle.cm_syntax.specs.declared.token.Sign.TheVariants as sign
-use Rattle.cm_syntax.specs.declared.token.Keyword.TheVariants as keyword
-use Rattle.cm_syntax.specs.Yield.{Quantity}
-use Rattle.cm_syntax.specs.Machine.{State, item, count_on, with_semicolon, function_of}
-use Rattle.cm_reader.specs.Read.{answer}
-use Rattle.cm_reader.proofs.StepLaws.{err_same, refused_on, ok_map, err_map}
-use Rattle.cm_reader.proofs.SimpleLaws.{target_index_goes, target_scalar_same}
+use Rattle.cm_syntax.specs.Parser.{State}
+use Rattle.cm_reader.proofs.StepLaw.{err_same, refused_on}
+use Rattle.cm_reader.proofs.SimpleLaw.{target_index_goes, target_scalar_same}
 use Rattle.cm_reader.proofs.cursor.Reader.target_of.Goals as goal
 
 pub returns-in_err-rest-clause-err : goal.returns-in_err-rest-clause-err

@@ -27,7 +27,7 @@ use Rattle.cm_syntax.specs.Canonical.{token_text, word_token, sign_token, name_t
 use Rattle.cm_syntax.proofs.StatementLaw.{For-Loop}
 use Rattle.cm_syntax.proofs.printing.TextLaw.{text-Binary, level-Binary, text-Unary, level-Unary, text-Input, index_text, IndexText, listed, text-If, text-Else, text-While, text-For, text-Block, text-Split}
 use Rattle.cm_reader.specs.Spaced.{spaced, block, head, for_head}
-use Rattle.cm_reader.proofs.SpacedLaws.{put_both, Lists, separated, Separates, separated-listed}
+use Rattle.cm_reader.proofs.SpacedLaw.{put_both, Lists, separated, Separates, separated-listed}
 
 -- ---- expressions
 

@@ -1,6 +1,6 @@
 -- What the machine does at the first tokens of parts of functions.
-use Rattle.std.proofs.Common.{◌≡◌, ℕ, Bool, true, false, List, [], ◌∷◌, ◌++◌, refl, sym, ap, ◌∙◌, arith}
-use Rattle.std.specs.Prelude.{◌==◌, nat_lt, length as token_count, Option, None, Some}
+use Rattle.std.proofs.Common.{◌≡◌, ℕ, Bool, true, false, List, [], ◌∷◌, ◌++◌, refl, arith}
+use Rattle.std.specs.Prelude.{◌==◌, length as token_count}
 use Rattle.std.proofs.lemmas.Bool.{true≢false, false≢true, eqb-true}
 use Rattle.cm_syntax.specs.declared.name.Name.{Name}
 use Rattle.cm_syntax.specs.declared.stmt.Item.{Item}
@@ -9,13 +9,13 @@ use Rattle.cm_syntax.specs.declared.stmt.Function.{Function}
 use Rattle.cm_syntax.specs.declared.token.Keyword.TheVariants as keyword
 use Rattle.cm_syntax.specs.declared.token.Sign.TheVariants as sign
 use Rattle.cm_syntax.specs.Token.{Token}
-use Rattle.cm_syntax.specs.ParseTree.{Mark, Offset}
+use Rattle.cm_syntax.specs.ParseTree.{Mark}
 use Rattle.cm_syntax.specs.Yield.{Quantity}
-use Rattle.cm_syntax.specs.Machine.{State, Next, goes, stops, on, step, is_sign, is_word, item, function_of, type_step, parameter_step, end_answer, some_functions, accepted}
+use Rattle.cm_syntax.specs.Parser.{State, on, step, is_sign, is_word, item, function_of, type_step, parameter_step, end_answer, some_functions}
 use Rattle.cm_reader.specs.declared.token.LocatedToken.{LocatedToken}
 use Rattle.cm_reader.specs.Next.{token_of, is_next, is_next_word}
 use Rattle.cm_reader.specs.Read.{answer, Goes, TakesName, TakesNameToken, parameter_next, some_parameters}
-use Rattle.cm_reader.proofs.StepLaws.{step_same}
+use Rattle.cm_reader.proofs.StepLaw.{step_same}
 
 -- ---- the mark and the type
 
@@ -133,19 +133,3 @@ pub functions_finish : (length : ℕ) (before : List (Function Name)) (tokens : 
 functions_finish length before [] none = refl
 functions_finish length before (t ∷ tokens) none =
     let zero : token_count (t ∷ tokens) ≡ 0 = eqb-true (token_count (t ∷ tokens)) 0 none in absurd (omega (arith, zero))
-
--- a text that is too long is refused, whatever was read
-pub end_too_long : (length : ℕ) (functions : List (Function Name)) → nat_lt 65536 length ≡ true →
-    end_answer length (some_functions functions) ≡ end_answer length None
-end_too_long length [] long = refl
-end_too_long length (f ∷ functions) long = rw long refl
-
--- a text without functions is refused
-pub end_without : (length : ℕ) (functions : List (Function Name)) → functions ≡ [] →
-    end_answer length (some_functions functions) ≡ end_answer length None
-end_without length functions none = rw none refl
-
-pub end_accepted : (length : ℕ) (functions : List (Function Name)) → nat_lt 65536 length ≡ false → (functions ≡ [] → ⊥) →
-    end_answer length (some_functions functions) ≡ accepted functions
-end_accepted length [] short some = absurd (some refl)
-end_accepted length (f ∷ functions) short some = rw short refl

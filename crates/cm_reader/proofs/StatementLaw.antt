@@ -1,7 +1,7 @@
 -- What the machine does at the first tokens of parts of statements.
-use Rattle.std.proofs.Common.{◌≡◌, ℕ, ◌+◌, Bool, true, false, List, [], ◌∷◌, ◌++◌, refl, sym, ap, ◌∙◌, Option, None, Some}
+use Rattle.std.proofs.Common.{◌≡◌, ℕ, ◌+◌, true, false, List, [], ◌∷◌, ◌++◌, refl, ap, ◌∙◌, Option, None, Some}
 use Rattle.std.specs.Prelude.{nat_le}
-use Rattle.std.proofs.lemmas.Bool.{true≢false, false≢true}
+use Rattle.std.proofs.lemmas.Bool.{false≢true}
 use Rattle.cm_syntax.specs.declared.name.Name.{Name}
 use Rattle.cm_syntax.specs.declared.expr.Expr.{Expr}
 use Rattle.cm_syntax.specs.declared.stmt.Target.TheVariants as target
@@ -12,14 +12,14 @@ use Rattle.cm_syntax.specs.declared.token.Sign.TheVariants as sign
 use Rattle.cm_syntax.specs.Token.{Token}
 use Rattle.cm_syntax.specs.ParseTree.{Mark, Offset}
 use Rattle.cm_syntax.specs.Yield.{Quantity}
-use Rattle.cm_syntax.specs.Machine.{State, Next, goes, stops, on, step, is_sign, is_word, is_within, value, declaration, with_semicolon, parenthesized, body, for_parts, split_parts, spawned, plain_step, simple_step}
+use Rattle.cm_syntax.specs.Parser.{State, Next, goes, stops, value, declaration, with_semicolon, parenthesized, body, for_parts, split_parts, spawned, plain_step, simple_step}
 use Rattle.cm_reader.specs.declared.token.LocatedToken.{LocatedToken}
 use Rattle.cm_reader.specs.declared.start.StatementStart.{StatementStart}
 use Rattle.cm_reader.specs.declared.start.StatementStart.TheVariants as start
 use Rattle.cm_reader.specs.declared.start.FlatStart.TheVariants as flat
 use Rattle.cm_reader.specs.Next.{token_of, is_next, is_next_word, next_offset, statement_start, token_statement}
 use Rattle.cm_reader.specs.Read.{answer, Goes, TakesName, TakesNameToken, if_parts}
-use Rattle.cm_reader.proofs.StepLaws.{step_same}
+use Rattle.cm_reader.proofs.StepLaw.{step_same}
 
 -- ---- a statement by what it begins with
 

@@ -1,5 +1,5 @@
 -- What the machine does at the first tokens of parts of declarations, assignments and calls.
-use Rattle.std.proofs.Common.{◌≡◌, ℕ, Bool, true, false, List, [], ◌∷◌, ◌++◌, refl, sym, ap, ◌∙◌, Option, None, Some}
+use Rattle.std.proofs.Common.{◌≡◌, ℕ, Bool, true, false, List, [], ◌∷◌, refl, ap, ◌∙◌, Option, None, Some}
 use Rattle.std.proofs.lemmas.Bool.{true≢false, false≢true}
 use Rattle.cm_syntax.specs.declared.name.Name.{Name}
 use Rattle.cm_syntax.specs.declared.expr.Op.{Op}
@@ -11,11 +11,11 @@ use Rattle.cm_syntax.specs.declared.stmt.Stmt.{Stmt}
 use Rattle.cm_syntax.specs.declared.stmt.Stmt.TheVariants as statement
 use Rattle.cm_syntax.specs.declared.token.Sign.TheVariants as sign
 use Rattle.cm_syntax.specs.Token.{Token}
-use Rattle.cm_syntax.specs.ParseTree.{Mark, Offset}
+use Rattle.cm_syntax.specs.ParseTree.{Mark}
 use Rattle.cm_syntax.specs.Yield.{Quantity}
-use Rattle.cm_syntax.specs.Machine.{State, Next, goes, stops, on, step, is_sign, is_within, update_operator, value, index, call_of, item, declarator, pointee, count_on, simple_step, target_step, writing_step, words_step}
+use Rattle.cm_syntax.specs.Parser.{State, Next, goes, stops, on, is_sign, is_within, value, index, call_of, item, declarator, pointee, count_on, simple_step, target_step, writing_step, words_step}
 use Rattle.cm_reader.specs.declared.token.LocatedToken.{LocatedToken}
-use Rattle.cm_reader.specs.Next.{token_of, is_next, next_number, token_number, next_assignment, token_assignment, sign_assignment}
+use Rattle.cm_reader.specs.Next.{token_of, is_next, next_number, token_number, next_assignment, token_assignment}
 use Rattle.cm_reader.specs.Read.{answer, IsStuck, Goes, TakesName, TakesNameToken}
 
 -- ---- declarators

@@ -12,10 +12,10 @@ use Rattle.cm_syntax.specs.Grammar.{IsSourceOf}
 use Rattle.cm_syntax.specs.Refusal.{Refusal, IsAnswer, HasNoRefusal, IsSoundTree}
 use Rattle.cm_syntax.specs.Canonical.{canonical}
 use Rattle.cm_syntax.specs.Offset.{without_offsets}
-use Rattle.cm_syntax.specs.Machine.{State, start, Next, goes, stops, is_within, NestedToken, nested_tokens, readable, capped, Answer, accepted, refused, step, finish, end_answer, token_answer, run, IsAnswerTo}
+use Rattle.cm_syntax.specs.Parser.{State, start, Next, goes, stops, is_within, NestedToken, nested_tokens, readable, capped, Answer, accepted, refused, step, finish, end_answer, token_answer, run, IsAnswerTo}
 use Rattle.cm_syntax.proofs.refusing.OneAnswer.{IsAnswer-one}
-use Rattle.cm_syntax.proofs.machine.trace.OneTree.{IsSourceOf-one}
-use Rattle.cm_syntax.proofs.machine.SourceText.{tokens_of, answer_to, answered}
+use Rattle.cm_syntax.proofs.parser.trace.OneTree.{IsSourceOf-one}
+use Rattle.cm_syntax.proofs.parser.SourceText.{tokens_of, answer_to, answered}
 use Rattle.cm_syntax.proofs.printing.ProgramPrinting.{canonical_reads_back}
 use Rattle.cm_reader.specs.declared.token.LocatedToken.{LocatedToken}
 use Rattle.cm_reader.specs.declared.refusal.ReadRefusal.{ReadRefusal}
@@ -23,7 +23,7 @@ use Rattle.cm_reader.specs.declared.refusal.ReadRefusal.TheVariants as refusal
 use Rattle.cm_reader.specs.Next.{nested}
 use Rattle.cm_reader.specs.Read.{answer, IsRefusal}
 use Rattle.cm_reader.specs.Answer.{IsRefusalOf, refusal_of, Gives}
-use Rattle.cm_reader.proofs.LexerLaws.{tokens_answer}
+use Rattle.cm_reader.proofs.LexerLaw.{tokens_answer}
 
 -- ---- beyond the limit of a source, the length doesn't matter
 

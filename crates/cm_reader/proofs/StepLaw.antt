@@ -1,21 +1,21 @@
 -- Laws of the machine's steps, for the code that follows it.
-use Rattle.std.proofs.Common.{◌≡◌, ℕ, ◌+◌, Bool, true, false, List, [], ◌∷◌, refl, sym, ap, ◌∙◌, subst, Option, None, Some}
+use Rattle.std.proofs.Common.{◌≡◌, ℕ, Bool, true, List, [], ◌∷◌, refl, sym, ap, subst}
 use Rattle.std.specs.Prelude.{IfOk, IfErr, Result, Ok, Err}
 use Rattle.std.specs.Result.{IsErrAnd}
-use Rattle.std.proofs.lemmas.Bool.{true≢false, false≢true}
+use Rattle.std.proofs.lemmas.Bool.{false≢true}
 use Rattle.cm_syntax.specs.declared.name.Name.{Name}
 use Rattle.cm_syntax.specs.declared.token.Keyword.{Keyword}
 use Rattle.cm_syntax.specs.declared.token.Sign.{Sign}
 use Rattle.cm_syntax.specs.Token.{Token}
 use Rattle.cm_syntax.specs.ParseTree.{Mark}
 use Rattle.cm_syntax.specs.Yield.{Quantity}
-use Rattle.cm_syntax.specs.Machine.{State, goes, stops, step, finish, is_within, is_sign, is_word, Answer, token_answer, run}
+use Rattle.cm_syntax.specs.Parser.{State, goes, step, is_within, Answer, token_answer, run}
 use Rattle.cm_reader.specs.declared.token.LocatedToken.{LocatedToken}
 use Rattle.cm_reader.specs.declared.token.Token.{Token as HeldToken}
 use Rattle.cm_reader.specs.declared.token.Token.TheVariants as held
 use Rattle.cm_reader.specs.declared.refusal.ReadRefusal.{ReadRefusal}
 use Rattle.cm_reader.specs.Next.{token_of, nested, is_next, is_next_word}
-use Rattle.cm_reader.specs.Read.{answer, IsRefusal, IsStuck, Goes, TakesName, TakesNameToken}
+use Rattle.cm_reader.specs.Read.{answer, IsRefusal, Goes, TakesName, TakesNameToken}
 
 -- ---- answers of calls
 

@@ -1,7 +1,7 @@
 -- What the machine does at the first tokens of parts of expressions.
 use Rattle.std.proofs.Common.{◌≡◌, ℕ, ◌+◌, Bool, true, false, List, [], ◌∷◌, ◌++◌, refl, sym, ap, ◌∙◌, Option, None, Some, pos, arith}
 use Rattle.std.specs.Prelude.{nat_lt, nat_le}
-use Rattle.std.proofs.lemmas.Bool.{true≢false, false≢true}
+use Rattle.std.proofs.lemmas.Bool.{false≢true}
 use Rattle.std.proofs.lemmas.Bool.Decides.{nat_tests}
 use Rattle.std.proofs.lemmas.Bool.{leb-true}
 use Rattle.std.proofs.lemmas.Int.{to_z_pos}
@@ -13,19 +13,18 @@ use Rattle.cm_syntax.specs.declared.expr.Expr.{Expr}
 use Rattle.cm_syntax.specs.declared.expr.Expr.TheVariants as expression
 use Rattle.cm_syntax.specs.declared.expr.Arg.{Arg}
 use Rattle.cm_syntax.specs.declared.expr.Arg.TheVariants as argument
-use Rattle.cm_syntax.specs.declared.expr.Call.{Call}
 use Rattle.cm_syntax.specs.declared.token.Keyword.TheVariants as keyword
 use Rattle.cm_syntax.specs.declared.token.Sign.TheVariants as sign
 use Rattle.cm_syntax.specs.Token.{Token}
 use Rattle.cm_syntax.specs.ParseTree.{Mark, Offset, level_of}
 use Rattle.cm_syntax.specs.Yield.{Quantity}
-use Rattle.cm_syntax.specs.Machine.{State, Next, goes, stops, on, step, is_sign, is_within, operator_of, operator_step, operand_step, argument_step, value_step, prefix_step, name_step, whole, value, index, call_of, parenthesized, token_answer, run}
+use Rattle.cm_syntax.specs.Parser.{State, Next, goes, stops, on, step, is_within, operator_of, operator_step, operand_step, prefix_step, name_step, whole, value, index, call_of, parenthesized, token_answer, run}
 use Rattle.cm_reader.specs.declared.token.LocatedToken.{LocatedToken}
 use Rattle.cm_reader.specs.declared.start.PrimaryStart.{PrimaryStart}
 use Rattle.cm_reader.specs.declared.start.PrimaryStart.TheVariants as primary
 use Rattle.cm_reader.specs.Next.{token_of, nested, is_next, unary_operator, token_unary_operator, primary_start, token_primary}
 use Rattle.cm_reader.specs.Read.{answer, IsStuck, Goes, TakesName, TakesNameToken, IsOperator, NoOperator, parenthesized_name}
-use Rattle.cm_reader.proofs.StepLaws.{step_same}
+use Rattle.cm_reader.proofs.StepLaw.{step_same}
 
 -- ---- operators
 

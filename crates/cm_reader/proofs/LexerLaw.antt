@@ -8,10 +8,10 @@ use Rattle.cm_syntax.specs.declared.token.Sign.{Sign}
 use Rattle.cm_syntax.specs.Limit.{max_source_bytes, max_open_brackets}
 use Rattle.cm_syntax.specs.Text.{is_space, is_word_byte}
 use Rattle.cm_syntax.specs.Token.{Token, LocatedToken, token_at, begins, Tokens}
-use Rattle.cm_syntax.specs.Lexer.{front, behind, opens_line, opens_block, has_end, Next, next, skips, finds, fails, line_length, block_length, run_next, run_token, sign_next, sign_there, followed, lexed}
+use Rattle.cm_syntax.specs.Lexer.{front, behind, opens_line, opens_block, has_end, Next, next, skips, finds, fails, block_length, run_next, run_token, sign_next, sign_there, followed, lexed}
 use Rattle.cm_syntax.specs.Refusal.{is_opening, is_closing}
-use Rattle.cm_syntax.specs.Machine.{capped_token, capped, readable, NestedToken, nested_tokens, run, start, text_answer}
-use Rattle.cm_syntax.proofs.machine.NumberCap.{capped_text}
+use Rattle.cm_syntax.specs.Parser.{capped_token, capped, readable, NestedToken, nested_tokens, run, start, text_answer}
+use Rattle.cm_syntax.proofs.parser.NumberCap.{capped_text}
 use Rattle.cm_syntax.proofs.lexing.TokenLaw.{Tokens-one}
 use Rattle.cm_syntax.proofs.lexing.Lexing.{front-behind, lexed_front, lexed_tokens, IsSized, next_sized}
 use Rattle.cm_reader.specs.declared.token.Token.{Token as HeldToken}
@@ -27,9 +27,6 @@ pub front_taken : (test : ℕ → Bool) (bytes : List ℕ) (n : ℕ) → n ≡ l
 front_taken test bytes n is = ap (take n) (front-behind test bytes) ∙ take_at (front test bytes) (behind test bytes) n (sym is)
 
 module _ (bytes : List ℕ) (black : begins is_space bytes ≡ false) where
-  pub next_line : opens_line bytes ≡ true → next bytes ≡ skips (line_length bytes)
-  next_line l = rw (black, l) refl
-
   module _ (no_line : opens_line bytes ≡ false) where
     pub next_block : opens_block bytes ≡ true → next bytes ≡ (if has_end (drop 2 bytes) then skips (block_length bytes) else fails)
     next_block b = rw (black, no_line, b) refl

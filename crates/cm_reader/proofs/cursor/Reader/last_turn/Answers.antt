@@ -1,0 +1,18 @@
+use Rattle.std.proofs.Common.{◌∙◌}
+use Rattle.cm_syntax.specs.declared.token.Sign.TheVariants as sign
+use Rattle.cm_syntax.specs.Parser.{State}
+use Rattle.cm_reader.proofs.StepLaw.{err_same, refused_on}
+use Rattle.cm_reader.proofs.cursor.Reader.last_turn.Goals as goal
+
+pub returns-in_err-step-clause-err : goal.returns-in_err-step-clause-err
+returns-in_err-step-clause-err c =
+    err_same _ c.from_residual.result c.in_err-step.field-0.0 c.from_residual.ensures.1
+    (λ k. c.in_err-step.ensures.err (λ last. State.sign_next sign.ParenClose (k last)))
+
+pub returns-in_err-rest-clause-err : goal.returns-in_err-rest-clause-err
+returns-in_err-rest-clause-err c =
+    err_same _ c.from_residual-in_err-rest.result c.in_err-rest.field-0.0 c.from_residual-in_err-rest.ensures.1
+    (λ k. refused_on _ (c.in_ok-step.ensures.ok (λ last. State.sign_next sign.ParenClose (k last))) (c.in_err-rest.ensures.err (k c.in_ok-step.step)))
+
+pub returns-clause-ok : goal.returns-clause-ok
+returns-clause-ok c = λ k. c.in_ok-step.ensures.ok (λ last. State.sign_next sign.ParenClose (k last)) ∙ (c.in_ok-rest.ensures.ok (k c.in_ok-step.step))
