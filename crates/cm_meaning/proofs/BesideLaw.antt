@@ -1,30 +1,17 @@
 -- A step on some words is the same step beside other words, which it leaves alone; and with what it needs of all of
 -- them it goes on as it does on all.
-use Rattle.std.proofs.Common.{◌≡◌, ◌≢◌, ℕ, zero, suc, ◌+◌, ◌<◌, List, [], ◌∷◌, length, Option, None, Some, refl, sym, ap, ◌∙◌, subst, arith, inl, inr}
+use Rattle.std.proofs.Common.{◌≡◌, ℕ, ◌<◌, List, [], ◌∷◌, length, Option, None, Some, refl, sym, ◌∙◌, subst, arith}
 use Rattle.std.proofs.lemmas.Bool.{eq-eqb, eqb-true, ltb-true}
-use Rattle.std.proofs.lemmas.Bool.Decides.{eqb_tells}
 use Rattle.std.specs.Prelude.{Bool, true, false, ◌==◌, ◌&&◌, if◌then◌else◌, nat_le, nat_lt, ℤ, pos, slice_get, ⊤}
-use Rattle.cm_syntax.specs.declared.expr.Op.{Op}
-use Rattle.cm_syntax.specs.declared.expr.Op.TheVariants as op
-use Rattle.cm_syntax.specs.declared.expr.Expr.{Expr}
-use Rattle.cm_syntax.specs.declared.expr.Expr.TheVariants as expression
-use Rattle.cm_syntax.specs.declared.expr.Arg.TheVariants as arg
-use Rattle.cm_syntax.specs.declared.expr.Call.{end_of-Arg, more_of-Arg}
-use Rattle.cm_syntax.specs.declared.stmt.Slot.{Slot}
-use Rattle.cm_syntax.specs.declared.stmt.Slot.TheVariants as slot
-use Rattle.cm_syntax.specs.declared.stmt.Item as items
-use Rattle.cm_syntax.specs.declared.stmt.Target.TheVariants as target
-use Rattle.cm_syntax.specs.declared.stmt.Stmt.{Stmt, end_of-Stmt, more_of-Stmt}
-use Rattle.cm_syntax.specs.declared.stmt.Stmt.TheVariants as statement
 use Rattle.cm_syntax.specs.declared.stmt.Function.{Function}
 use Rattle.cm_syntax.specs.declared.stmt.Program.{Program}
-use Rattle.cm_syntax.specs.Shape.{Joined, Prefixed, Element, InputAt, IfAlone, IfElse, WhileLoop, ForLoop}
 use Rattle.cm_syntax.specs.Label.{silent, stuck}
-use Rattle.cm_syntax.specs.Operator.{is_zero, natural, binary_value, divides, unary_value}
 use Rattle.cm_syntax.specs.Cell.{Cell, absent, unset, present, is_held, value_in, may_write, Loan, unlent, to_read, lent_cell, kept_cell, CellSum}
-use Rattle.cm_syntax.specs.Stack.{Reference, Stack, Destination, Argument, write_word, clear_words, write_reference, write_parts, may_write_all, word_parameter, slice_parameter, push_frame, pop_frame, lent_word, lent_reference, StackSum, IsUnder}
-use Rattle.cm_syntax.specs.Rest.{Purpose, called, spawned, Item, evaluate, right, apply, prefix, both, either, truth, element, read, arguments, pass, take_back, discard, deliver, perform, sequence, body, declare, assign, update, locate, store, branch, turn, test, part, tick, show, exit, fall, join, end, Hand, idle, holds, returned, entering, framing, Control}
-use Rattle.cm_syntax.specs.Step.{Move, top, rest_at_join, when_readable, when_writable, when_value, when_result, when_some, write_step, leave, is_index, is_split, slice_in, call_bytes_in, invoke, enter_call, take_value, drop_value, deliver_value, declare_item, do_other, fall_off, slot_at, running_function, when_slice, push_call, end_call, give_input, evaluate_step, statement_step, item_step, hand_step, step}
+use Rattle.cm_syntax.specs.Stack.{Reference, Stack, Argument, write_word, clear_words, write_reference, word_parameter, slice_parameter, push_frame, pop_frame, lent_word, lent_reference, StackSum, IsUnder}
+use Rattle.cm_syntax.specs.Rest.{Item, end, Hand, idle, holds, returned, entering, framing, Control}
+use Rattle.cm_syntax.specs.Step.{Move, top, rest_at_join, when_readable, when_writable, leave, call_bytes_in, push_call, end_call, item_step, hand_step, step}
+use Rattle.cm_meaning.proofs.Walk.{Change, nothing, word, zeros, parts, changed, MayChange, Rules}
+use Rattle.cm_meaning.proofs.WalkLaw.{item_law}
 use Rattle.cm_meaning.specs.Law.{IsBeside, writes_next, HasNeeded}
 use Rattle.cm_syntax.proofs.CellLaw.{cell_nothing, writable_alone, writable_sum, value_sum, held_value, loan_sum}
 use Rattle.cm_syntax.proofs.AccessLaw.{reading, writing, reads_value, writes_on, writes_no_loan}
@@ -32,12 +19,6 @@ use Rattle.cm_syntax.proofs.AccessLaw.{reading, writing, reads_value, writes_on,
 pub and_true : (x y : Bool) → (x && y) ≡ true → (x ≡ true) × (y ≡ true)
 and_true true y h = (refl, h)
 and_true false y h = cc h
-
-pub none_below : (i : ℕ) → i < 0 → ⊥
-none_below i l = omega (arith, l)
-
-pub below : (i n : ℕ) → (i ≢ n) → i < suc n → i < n
-below i n d l = omega (arith, d, l)
 
 -- where the tests of a word hold it is that word
 pub one_place : (e d t s j i : ℕ) → (e == d && (t == s && j == i)) ≡ true → (e ≡ d) × (t ≡ s) × (j ≡ i)
@@ -67,11 +48,6 @@ stuck_read c l h = reading (λ m. m ≡ stuck) refl c l h
 stuck_write : {A : Type 0} (c : Cell A) (m : Move) → (may_write c ≡ true → m ≡ stuck) → when_writable c m ≡ stuck
 stuck_write c m h = writing (λ m. m ≡ stuck) refl c m h
 
--- words that are all to be written are written one by one
-one_by_one : (c : Cell ℤ) (more q : Bool) (m : Move) → may_write c ≡ q → when_writable c (if more then m else stuck) ≡ (if q && more then m else stuck)
-one_by_one c more true m e = writes_on c _ e
-one_by_one c more false m e = stuck_write c _ (λ w. cc (sym w ∙ e))
-
 -- the move isn't stuck
 abbrev GoesOn : Move → Type 0
 GoesOn stuck = ⊥
@@ -82,6 +58,13 @@ module _ (program : Program) (page : ℕ) (input : List ℤ) (a b g : Stack) (o 
   record Agrees (writes : Bool) (does : Stack → Move) : Type 0 where
     beside_ : IsUnder (length c.calls) b → IsBeside b (does a) (does g)
     goes : HasNeeded writes does a g → does a ≡ stuck → does g ≡ stuck
+
+  -- the others have nothing of a word or a reference
+  abbrev IsAway : (d s i : ℕ) → Type 0
+  IsAway d s i = b.words d s i ≡ absent
+
+  abbrev IsAwayReference : (d s : ℕ) → Type 0
+  IsAwayReference d s = b.references d s ≡ absent
 
   leaf : {q : Bool} {f : Stack → Move} → (IsUnder (length c.calls) b → IsBeside b (f a) (f g)) → GoesOn (f a) → Agrees q f
   leaf s on = record { beside_ = s; goes = λ n e. absurd (subst GoesOn e on) }
@@ -126,9 +109,9 @@ module _ (program : Program) (page : ℕ) (input : List ℤ) (a b g : Stack) (o 
   }
 
   -- what is written is held by nobody else
-  writes : {A : Type 0} (cell : Stack → Cell A) (f : Stack → Move) → CellSum (cell a) (cell b) (cell g)
-      → (HasNeeded true (λ h. when_writable (cell h) (f h)) a g → may_write (cell a) ≡ true)
-      → (cell b ≡ absent → Agrees true f) → Agrees true (λ h. when_writable (cell h) (f h))
+  writes : {q : Bool} {A : Type 0} (cell : Stack → Cell A) (f : Stack → Move) → CellSum (cell a) (cell b) (cell g)
+      → (HasNeeded q (λ h. when_writable (cell h) (f h)) a g → may_write (cell a) ≡ true)
+      → (cell b ≡ absent → Agrees q f) → Agrees q (λ h. when_writable (cell h) (f h))
   writes cell f s held go = record {
     beside_ = λ l. writing (λ m. IsBeside b m (when_writable (cell g) (f g))) tt (cell a) (f a) (λ e.
         let w = writable_sum (cell a) (cell b) (cell g) s e in subst (λ m. IsBeside b (f a) m) (sym (writes_on (cell g) (f g) w.0)) ((go w.1).beside_ l));
@@ -139,91 +122,24 @@ module _ (program : Program) (page : ℕ) (input : List ℤ) (a b g : Stack) (o 
   by_word : {q : Bool} (d s i : ℕ) (f : ℤ → Stack → Move) → ((v : ℤ) → Agrees q (f v)) → Agrees q (λ h. when_readable (h.words d s i) (λ v. f v h))
   by_word d s i f go = reads (λ h. h.words d s i) f (o.words d s i) (λ h w. w.words d s i) (λ n. n.words d s i (rw (eq-eqb d d refl, eq-eqb s s refl, eq-eqb i i refl) refl)) go
 
-  by_written : (d s i : ℕ) (f : Stack → Move) → (b.words d s i ≡ absent → Agrees true f) → Agrees true (λ h. when_writable (h.words d s i) (f h))
-  by_written d s i f go = writes (λ h. h.words d s i) f (o.words d s i) (λ n. n.words_written refl d s i (rw (eq-eqb d d refl, eq-eqb s s refl, eq-eqb i i refl) (writes_no_loan _ _))) go
+  by_reference : {q : Bool} (d s : ℕ) (f : Reference → Stack → Move) → ((r : Reference) → Agrees q (f r)) → Agrees q (λ h. when_readable (h.references d s) (λ r. f r h))
+  by_reference d s f go = reads (λ h. h.references d s) f (o.references d s) (λ h w. w.references d s) (λ n. n.references d s (rw (eq-eqb d d refl, eq-eqb s s refl) refl)) go
 
-  by_set : (d s : ℕ) (f : Stack → Move) → (b.references d s ≡ absent → Agrees true f) → Agrees true (λ h. when_writable (h.references d s) (f h))
-  by_set d s f go = writes (λ h. h.references d s) f (o.references d s) (λ n. n.references_written refl d s (rw (eq-eqb d d refl, eq-eqb s s refl) (writes_no_loan _ _))) go
+  by_written : {q : Bool} → q ≡ true → (d s i : ℕ) (f : Stack → Move) → (b.words d s i ≡ absent → Agrees q f) → Agrees q (λ h. when_writable (h.words d s i) (f h))
+  by_written w d s i f go = writes (λ h. h.words d s i) f (o.words d s i) (λ n. n.words_written w d s i (rw (eq-eqb d d refl, eq-eqb s s refl, eq-eqb i i refl) (writes_no_loan _ _))) go
 
-  by_all : (d s n : ℕ) (f : Stack → Move) → (((i : ℕ) → i < n → b.words d s i ≡ absent) → Agrees true f) → Agrees true (λ h. if may_write_all (h.words d s) n then f h else stuck)
-  by_all d s zero f go = go (λ i l. absurd (none_below i l))
-  by_all d s (suc n) f go = subst (Agrees true) (λ j h. one_by_one (h.words d s n) (may_write_all (h.words d s) n) (may_write (h.words d s n)) (f h) refl j)
-      (by_written d s n (λ h. if may_write_all (h.words d s) n then f h else stuck) (λ e. by_all d s n f (λ t. go (λ i l. elim (eqb_tells i n) [
-        | inl one ↦ ap (b.words d s) one.1 ∙ e
-        | inr ne ↦ t i (below i n ne.1 l)
-      ]))))
-
-  by_value : {q : Bool} (h : Hand) (f : ℤ → Stack → Move) → ((v : ℤ) → Agrees q (f v)) → Agrees q (λ s. when_value h (λ v. f v s))
-  by_value (holds v) f go = go v
-  by_value _ f go = stops
+  by_set : {q : Bool} → q ≡ true → (d s : ℕ) (f : Stack → Move) → (b.references d s ≡ absent → Agrees q f) → Agrees q (λ h. when_writable (h.references d s) (f h))
+  by_set w d s f go = writes (λ h. h.references d s) f (o.references d s) (λ n. n.references_written w d s (rw (eq-eqb d d refl, eq-eqb s s refl) (writes_no_loan _ _))) go
 
   by_if : {q : Bool} (t : Bool) (f l : Stack → Move) → Agrees q f → Agrees q l → Agrees q (λ h. if t then f h else l h)
   by_if true f l x y = x
   by_if false f l x y = y
-
-  by_slice_of : {q : Bool} (z : Option Slot) (s : ℕ) (f : Reference → Stack → Move) → ((r : Reference) → Agrees q (f r)) → Agrees q (λ h. slice_in c.calls h z s (λ r. f r h))
-  by_slice_of (Some slot.Scalar) s f go = go _
-  by_slice_of (Some (slot.Array n)) s f go = go _
-  by_slice_of (Some slot.Slice) s f go = let d = top c.calls in
-      reads (λ h. h.references d s) f (o.references d s) (λ h w. w.references d s) (λ n. n.references d s (rw (eq-eqb d d refl, eq-eqb s s refl) refl)) go
-  by_slice_of None s f go = stops
-
-  by_slice : {q : Bool} (s : ℕ) (f : Reference → Stack → Move) → ((r : Reference) → Agrees q (f r)) → Agrees q (λ h. when_slice program page input c h s (λ r. f r h))
-  by_slice s f go = by_slice_of (slot_at program page input c.calls s) s f go
-
-  by_result : {q : Bool} (p : Op) (v : Option ℤ) (f : ℤ → Stack → Move) → ((w : ℤ) → Agrees q (f w)) → Agrees q (λ h. when_result p v (λ w. f w h))
-  by_result p (Some v) f go = go v
-  by_result p None f go = by_if (divides p) _ _ (leaf (λ l. refl) tt) stops
-
-  by_some : {q : Bool} (v : Option ℤ) (f : ℤ → Stack → Move) → ((w : ℤ) → Agrees q (f w)) → Agrees q (λ h. when_some v (λ w. f w h))
-  by_some (Some v) f go = go v
-  by_some None f go = stops
 
   sum_put : (d s i : ℕ) (v : ℤ) → b.words d s i ≡ absent → StackSum (write_word a d s i v) b (write_word g d s i v)
   sum_put d s i v none_ = record {
     words = λ e t j. sum_new (e == d && (t == s && j == i)) (present v) _ _ _ (λ q. let x = one_place e d t s j i q in (λ k. b.words (x.0 k) (x.1 k) (x.2 k)) ∙ none_) (o.words e t j);
     references = o.references;
   }
-
-  beside_write : (d s i : ℕ) (p : Option Op) (v : ℤ) (k : List Item) → Agrees true (λ h. write_step c h d s i p v k)
-  beside_write d s i None v k = by_written d s i _ (λ e. leaf (λ l u. (write_word g d s i v, refl, sum_put d s i v e)) tt)
-  beside_write d s i (Some p) v k = by_written d s i _ (λ e. by_word d s i _ (λ old. by_result p (binary_value p old v) _ (λ w. leaf (λ l u. (write_word g d s i w, refl, sum_put d s i w e)) tt)))
-
-  beside_call : (u : Purpose) (f : ℕ) (ws : List Argument) (k : List Item) → Agrees (writes_next (arguments u f ws end_of-Arg ∷ k)) (λ h. enter_call c h u f ws k)
-  beside_call called f ws k = same _
-  beside_call (spawned None) f ws k = leaf (λ l. (_, _, refl)) tt
-  beside_call (spawned (Some x)) f ws k = by_written (top c.calls) x 0 _ (λ e. leaf (λ l. (_, _, refl)) tt)
-
-  beside_input : {q : Bool} (v : Option ℤ) (k : List Item) → Agrees q (λ h. give_input program page input c h v k)
-  beside_input None k = leaf (λ l. refl) tt
-  beside_input (Some v) k = same _
-
-  beside_invoke : {q : Bool} (u : Purpose) (e : Expr ℕ) (k : List Item) → Agrees q (λ h. invoke c h u e k)
-  beside_invoke u (expression.Call' f _ row) k = same _
-  beside_invoke u _ k = stops
-
-  beside_take : {q : Bool} (h : Hand) (k : List Item) → Agrees q (λ s. take_value c s h k)
-  beside_take (returned (Some v)) k = same _
-  beside_take (returned None) k = stops
-  beside_take _ k = stops
-
-  beside_drop : {q : Bool} (h : Hand) (k : List Item) → Agrees q (λ s. drop_value c s h k)
-  beside_drop (returned v) k = same _
-  beside_drop _ k = stops
-
-  beside_deliver : (h : Hand) (x : Destination) (k : List Item) → Agrees true (λ s. deliver_value c s h x k)
-  beside_deliver (returned v) None k = same _
-  beside_deliver (returned (Some v)) (Some x) k = beside_write x.depth x.slot 0 None v k
-  beside_deliver (returned None) (Some x) k = same _
-  beside_deliver _ _ k = stops
-
-  beside_other : {q : Bool} (s : Option (Stmt ℕ)) (k : List Item) → Agrees q (λ h. do_other c h s k)
-  beside_other None k = same _
-  beside_other (Some s) k = same _
-
-  beside_fall : {q : Bool} (f : Option (Function ℕ)) (k : List Item) → Agrees q (λ h. fall_off c h f k)
-  beside_fall None k = stops
-  beside_fall (Some f) k = by_if f.gives _ _ (same _) (same _)
 
   beside_leave : {q : Bool} (k : Option (List Item)) → Agrees q (λ h. leave c h k)
   beside_leave None = stops
@@ -234,12 +150,6 @@ module _ (program : Program) (page : ℕ) (input : List ℤ) (a b g : Stack) (o 
     words = λ e t j. sum_new (e == d && (t == s && nat_lt j n)) (present (pos 0)) _ _ _ (λ q. let x = in_slot e d t s j n q in (λ k. b.words (x.0 k) (x.1 k) j) ∙ none_ j x.2) (o.words e t j);
     references = o.references;
   }
-
-  beside_declare : (x : ℕ) (z : Slot) (e : Option (Expr ℕ)) (more : List (items.Item ℕ)) (k : List Item) → Agrees true (λ h. declare_item c h x z e more k)
-  beside_declare x slot.Scalar None more k = beside_write (top c.calls) x 0 None (pos 0) (declare more ∷ k)
-  beside_declare x slot.Scalar (Some e) more k = same _
-  beside_declare x (slot.Array n) e more k = by_all (top c.calls) x n _ (λ t. leaf (λ l u. (clear_words g (top c.calls) x n, refl, sum_zeroed (top c.calls) x n t)) tt)
-  beside_declare x slot.Slice e more k = stops
 
   sum_set : (h k : Stack) (d s : ℕ) (r : Reference) → b.references d s ≡ absent → StackSum h b k → StackSum (write_reference h d s r) b (write_reference k d s r)
   sum_set h k d s r none_ z = record {
@@ -267,80 +177,33 @@ module _ (program : Program) (page : ℕ) (input : List ℤ) (a b g : Stack) (o 
   beside_frame f ws k None = stops
   beside_frame f ws k (Some z) = by_if (nat_le (call_bytes_in page (Some z)) c.account) _ _ (leaf (λ l u. (push_frame g (length c.calls) ws, refl, sum_pushed l ws)) tt) (leaf (λ l. refl) tt)
 
-  beside_evaluate : {q : Bool} (e : Expr ℕ) (k : List Item) → Agrees q (λ h. evaluate_step program page input c h e k)
-  beside_evaluate (expression.Number n) k = same _
-  beside_evaluate (expression.Scalar x) k = by_word (top c.calls) x.name 0 _ (λ v. same _)
-  beside_evaluate (Element p e) k = same _
-  beside_evaluate (expression.Len p) k = by_slice p.name _ (λ r. same _)
-  beside_evaluate (InputAt e) k = same _
-  beside_evaluate expression.Inputs k = same _
-  beside_evaluate (Prefixed p e) k = same _
-  beside_evaluate (Joined op.Both l r) k = same _
-  beside_evaluate (Joined op.Either l r) k = same _
-  beside_evaluate (Joined x l r) k = same _
-  beside_evaluate (expression.Call' f _ row) k = same _
+  -- what a change does to the part it does to the whole, beside the other words
+  sum_changed : (x : Change) → MayChange IsAway IsAwayReference (top c.calls) x → StackSum (changed (top c.calls) x a) b (changed (top c.calls) x g)
+  sum_changed nothing m = o
+  sum_changed (word d s i v) m = sum_put d s i v m
+  sum_changed (zeros s n) m = sum_zeroed (top c.calls) s n m
+  sum_changed (parts l r x n) m = sum_set _ _ (top c.calls) r _ m.1 (sum_set a g (top c.calls) l _ m.0 o)
 
-  beside_statement : {q : Bool} (s : Stmt ℕ) (k : List Item) → Agrees q (λ h. statement_step program page input c h s k)
-  beside_statement statement.Empty k = same _
-  beside_statement (statement.Declare row) k = same _
-  beside_statement (statement.Assign (target.Scalar x) None e) k = same _
-  beside_statement (statement.Assign (target.Scalar x) (Some p) e) k = same _
-  beside_statement (statement.Assign (target.Index x place) p e) k = same _
-  beside_statement (statement.Call call) k = beside_invoke called (expression.Call call) (discard ∷ k)
-  beside_statement (statement.Spawn at x call) k = beside_invoke _ (expression.Call call) k
-  beside_statement (statement.Sync at) k = leaf (λ l. refl) tt
-  beside_statement (IfAlone t s) k = same _
-  beside_statement (IfElse t s p) k = same _
-  beside_statement (WhileLoop t s) k = same _
-  beside_statement (ForLoop first t s p) k = same _
-  beside_statement (statement.Split' whole place l r _ row close) k = same _
-  beside_statement (statement.Return at None) k = same _
-  beside_statement (statement.Return at (Some e)) k = same _
-  beside_statement (statement.Print e) k = same _
-  beside_statement (statement.Block' _ row) k = same _
+  rules : (q : Bool) (k : List Item) → Rules q IsAway IsAwayReference (λ f m. Agrees q f) c c.account c.rest k k
+  rules q k = record {
+    none = stops;
+    error = λ t. leaf (λ l. refl) tt;
+    reads = λ d s i f m e. by_word d s i f e;
+    reads_reference = λ d s f m e. by_reference d s f e;
+    writes_word = λ w d s i f m e. by_written w d s i f e;
+    writes_reference = λ w d s f m e. by_set w d s f e;
+    goes = λ x y new m p. leaf (λ l u. (changed (top c.calls) x g, refl, sum_changed x m)) tt;
+    called = λ f ws. same _;
+    spawns = λ f ws x m. leaf (λ l. (_, _, refl)) tt;
+    ticks = λ y. leaf (λ l u. (g, refl, o)) tt;
+    prints = λ v. leaf (λ l u. (g, refl, o)) tt;
+    syncs = λ y. leaf (λ l. refl) tt;
+    leaves = beside_leave (rest_at_join k);
+  }
 
   beside_item : (i : Item) (k : List Item) → Agrees (writes_next (i ∷ k)) (λ h. item_step program page input c h i k)
-  beside_item (evaluate e) k = beside_evaluate e k
-  beside_item (right x r) k = by_value c.hand _ (λ v. same _)
-  beside_item (apply x l) k = by_value c.hand _ (λ v. by_result x (binary_value x l v) _ (λ w. same _))
-  beside_item (prefix x) k = by_value c.hand _ (λ v. by_some (unary_value x v) _ (λ w. same _))
-  beside_item (both r) k = by_value c.hand _ (λ v. by_if (is_zero v) _ _ (same _) (same _))
-  beside_item (either r) k = by_value c.hand _ (λ v. by_if (is_zero v) _ _ (same _) (same _))
-  beside_item truth k = by_value c.hand _ (λ v. same _)
-  beside_item (element s) k = by_value c.hand _ (λ v. by_slice s _ (λ r. by_if (is_index v r.length) _ _ (by_word r.depth r.slot (r.start + natural v) _ (λ w. same _)) (leaf (λ l. refl) tt)))
-  beside_item read k = by_value c.hand _ (λ v. by_if (is_index v (length input)) _ _ (beside_input (slice_get input (natural v)) k) (leaf (λ l. refl) tt))
-  beside_item (arguments u f ws end_of-Arg) k = beside_call u f ws k
-  beside_item (arguments u f ws (more_of-Arg (arg.Value e) more)) k = same _
-  beside_item (arguments u f ws (more_of-Arg (arg.Slice x) more)) k = by_slice x.name _ (λ r. same _)
-  beside_item (arguments u f ws (more_of-Arg (arg.Address x) more)) k = same _
-  beside_item (pass u f ws more) k = by_value c.hand _ (λ v. same _)
-  beside_item take_back k = beside_take c.hand k
-  beside_item discard k = beside_drop c.hand k
-  beside_item (deliver x) k = beside_deliver c.hand x k
-  beside_item (perform s) k = beside_statement s k
-  beside_item (sequence end_of-Stmt) k = same _
-  beside_item (sequence (more_of-Stmt s l)) k = same _
-  beside_item (body []) k = same _
-  beside_item (body (s ∷ l)) k = same _
-  beside_item (declare []) k = same _
-  beside_item (declare (x ∷ more)) k = beside_declare x.name.name x.slot x.first more k
-  beside_item (assign x) k = by_value c.hand _ (λ v. beside_write (top c.calls) x 0 None v k)
-  beside_item (update x p) k = by_value c.hand _ (λ v. beside_write (top c.calls) x 0 (Some p) v k)
-  beside_item (locate s p e) k = by_value c.hand _ (λ v. by_slice s _ (λ r. by_if (is_index v r.length) _ _ (same _) (leaf (λ l. refl) tt)))
-  beside_item (store s i p) k = by_value c.hand _ (λ v. by_slice s _ (λ r. beside_write r.depth r.slot (r.start + i) p v k))
-  beside_item (branch s p) k = by_value c.hand _ (λ v. by_if (is_zero v) _ _ (beside_other p k) (same _))
-  beside_item (turn (Some t) s p) k = same _
-  beside_item (turn None s p) k = same _
-  beside_item (test t s p) k = by_value c.hand _ (λ v. by_if (is_zero v) _ _ (same _) (same _))
-  beside_item (part s l r row) k = by_value c.hand _ (λ v. by_slice s _ (λ x. by_if (is_split v x.length) _ _
-      (by_set (top c.calls) l _ (λ e. by_set (top c.calls) r _ (λ f. leaf (λ l_ u. (write_parts g (top c.calls) l r x (natural v), refl, sum_set _ _ (top c.calls) r _ f (sum_set a g (top c.calls) l _ e o))) tt)))
-      (leaf (λ l. refl) tt)))
-  beside_item tick k = leaf (λ l u. (g, refl, o)) tt
-  beside_item show k = by_value c.hand _ (λ v. leaf (λ l u. (g, refl, o)) tt)
-  beside_item exit k = beside_leave (rest_at_join k)
-  beside_item fall k = beside_fall (running_function program page input c.calls) k
-  beside_item join k = leaf (λ l. refl) tt
   beside_item end k = beside_end c.calls k
+  beside_item i k = item_law program page input (writes_next (i ∷ k)) IsAway IsAwayReference (λ f m. Agrees (writes_next (i ∷ k)) f) c c.account c.rest k k (rules (writes_next (i ∷ k)) k) i tt (λ e. e)
 
   beside_step : (h : Hand) (k : List Item) → Agrees (writes_next k) (λ s. hand_step program page input c s h k)
   beside_step (entering f ws) k = leaf (λ l u. (g, refl, o)) tt

@@ -11,6 +11,9 @@ use Rattle.cm_syntax.specs.declared.expr.Expr.{Expr}
 use Rattle.cm_syntax.specs.declared.expr.Mark.{Mark}
 use Rattle.cm_syntax.specs.declared.stmt.Slot.{Slot}
 use Rattle.cm_syntax.specs.declared.stmt.Slot.TheVariants as slot
+use Rattle.cm_syntax.specs.declared.stmt.Extent.{Extent}
+use Rattle.cm_syntax.specs.declared.stmt.Extent.TheVariants as extent
+use Rattle.cm_syntax.specs.Extent.{extent_of}
 use Rattle.cm_syntax.specs.declared.stmt.Function.{Function}
 use Rattle.cm_syntax.specs.declared.stmt.Program.{Program}
 use Rattle.cm_syntax.specs.declared.stmt.Stmt.{Stmt}
@@ -19,7 +22,7 @@ use Rattle.cm_syntax.specs.Trap as kind
 use Rattle.cm_meaning.specs.Meaning.{serial_step}
 use Rattle.cm_syntax.specs.Label.{silent, traps}
 use Rattle.cm_syntax.specs.Cell.{may_write}
-use Rattle.cm_syntax.specs.Stack.{Reference, Stack, Argument, word, slice, pop_frame, push_frame}
+use Rattle.cm_syntax.specs.Stack.{Reference, Stack, Argument, slice, pop_frame, push_frame}
 use Rattle.cm_syntax.specs.Rest as rest
 use Rattle.cm_syntax.specs.Step.{Move, top, rest_at_join, leave, hand_value, call_bytes_in, running_function, fall_off, hold, go_on, end_call, push_call, item_step, enter_call, scalar_slice, slice_in, slot_at}
 use Rattle.cm_meaning.specs.declared.evaluator.Evaluator.{Evaluator}
@@ -37,10 +40,11 @@ use Rattle.cm_meaning.specs.declared.work.Outcome.TheVariants as outcomes
 use Rattle.cm_syntax.specs.Frame.{frame_words}
 use Rattle.cm_meaning.specs.Measure.{cilk_frames}
 use Rattle.cm_meaning.specs.Typing.{parameters_in, IsSetRow, TypedArguments, TypedFunction, TypedProgram}
-use Rattle.cm_meaning.specs.TypedState.{FitsParameter, FitParameters, AtHand, nothing, back, at_hand, Inner, Outer, Running, Calling, Ready}
-use Rattle.cm_meaning.specs.Layout.{reference_of, IsRowOf, slot_in, IsLaidOut, IsSamePlace, ShowsAfter, FitFrames, frames_words, TakesArguments, AreOfKinds, argument_of, program_in, calls_in, room_in, Shows}
+use Rattle.cm_meaning.specs.TypedState.{FitsParameter, FitsExtent, FitParameters, AtHand, nothing, back, at_hand, Inner, Outer, Running, Calling, Ready}
+use Rattle.cm_meaning.specs.Layout.{reference_of, IsRowOf, slot_in, IsLaidOut, IsSamePlace, ShowsAfter, FitFrames, frames_words, TakesArguments, AreOfKinds, AreOfExtents, argument_of, program_in, calls_in, room_in, Shows}
 use Rattle.cm_syntax.proofs.AccessLaw.{writes_on}
-use Rattle.cm_meaning.proofs.EvaluatorLaw.{control_by, work_item, behind_work, control_at, work_move, elided, does_by, puts_does, kept_behind, same_run, control_behind, Inside, NotEnd, ready_inside, serial_move, row_there, row_at, slot_at_is, top_lives}
+use Rattle.cm_meaning.proofs.EvaluatorLaw.{control_by, work_item, behind_work, control_at, work_move, elided, does_by, puts_does, kept_behind, same_run, control_behind, Inside, ready_inside, serial_move, row_there, row_at, slot_at_is, top_lives}
+use Rattle.cm_meaning.proofs.Walk.{IsNoEnd}
 use Rattle.cm_meaning.specs.Evaluator.{delivery, purpose_of, arguments_row, item_of, items_of, work_count, hand_of, hand_count, passed_in, control_with, control_in, IsKept, IsTypedAt, IsPlain, IsAtHand, IsReady, IsSameRun, Leads, Does, Steps, Puts}
 
 -- ---- lists
@@ -309,13 +313,6 @@ argument_does old mid new work y outcome u f n m most row w ready is going same 
         ∙ ap (λ ws. rest.control (calls_in old.frames) old.account rest.idle
         (rest.arguments (purpose_of u) f (argument_of w ∷ take n (passed_in old)) (arguments_row row.now).1 ∷ items_of (reverse old.rest.items) ws)) others
 
--- the next argument is the value at hand
-pub pass_moves : (ev : Evaluator) (u : Purpose) (f n : ℕ) (row : Bor (List (Arg ℕ))) (v : ℤ) (h : Stack)
-    → work_move ev (hands.Value v) (works.Pass u f n row) h
-    ≡ silent (rest.control (calls_in ev.frames) ev.account rest.idle
-    (rest.arguments (purpose_of u) f (word v ∷ take n (passed_in ev)) (arguments_row row.now).1 ∷ items_of (reverse ev.rest.items) (drop n (passed_in ev)))) h
-pass_moves ev u f n row v h = refl
-
 -- ---- a call gets its arguments
 
 module _ (program : Program) (h : Stack) (calls : List ℕ) where
@@ -332,18 +329,18 @@ module _ (program : Program) (h : Stack) (calls : List ℕ) where
   are_of_kinds [] [] fit e = tt
   are_of_kinds [] (p ∷ ps) fit e = absurd (omega arith)
   are_of_kinds (a ∷ rest_of) [] fit e = absurd (omega arith)
-  are_of_kinds (a ∷ rest_of) (p ∷ ps) fit e = one a p parts.0 (are_of_kinds rest_of ps parts.1 (omega arith))
+  are_of_kinds (a ∷ rest_of) (p ∷ ps) fit e = one a (extent_of p) parts.0 (are_of_kinds rest_of ps parts.1 (omega arith))
     where
       parts : FitsParameter program h calls (argument_of a) (Some p) × FitParameters program h calls (reverse (map argument_of rest_of)) ps
       parts = first_fits (reverse (map argument_of rest_of)) (argument_of a) p ps (subst (λ ws. FitParameters program h calls ws (p ∷ ps)) (reverse-append (argument_of a ∷ []) (map argument_of rest_of)) fit)
 
-      one : (a : declared.Argument) (p : Slot) → FitsParameter program h calls (argument_of a) (Some p) → AreOfKinds rest_of ps → AreOfKinds (a ∷ rest_of) (p ∷ ps)
-      one (declared_arguments.Word v) slot.Scalar fit more = more
-      one (declared_arguments.Slice r) slot.Slice fit more = more
-      one (declared_arguments.Word v) slot.Slice fit more = absurd fit
-      one (declared_arguments.Word v) (slot.Array n) fit more = absurd fit
-      one (declared_arguments.Slice r) slot.Scalar fit more = absurd fit
-      one (declared_arguments.Slice r) (slot.Array n) fit more = absurd fit
+      one : (a : declared.Argument) (p : Extent) → FitsExtent program h calls (argument_of a) (Some p) → AreOfKinds rest_of ps → AreOfExtents (a ∷ rest_of) (p ∷ map extent_of ps)
+      one (declared_arguments.Word v) extent.Word fit more = more
+      one (declared_arguments.Slice r) extent.Reference fit more = more
+      one (declared_arguments.Word v) extent.Reference fit more = absurd fit
+      one (declared_arguments.Word v) (extent.Words n) fit more = absurd fit
+      one (declared_arguments.Slice r) extent.Word fit more = absurd fit
+      one (declared_arguments.Slice r) (extent.Words n) fit more = absurd fit
 
 -- ---- results
 
@@ -361,7 +358,7 @@ pub record RunningAt (ev : Evaluator) (n : ℕ) : Type 0 where
   pub runs : running_function ev.program.now ev.page ev.input.now (calls_in ev.frames) ≡ Some function
 
 -- the function that a piece of work finds running
-pub running_at : (ev : Evaluator) (work : Work) (n : ℕ) → IsReady ev work → NotEnd (work_item ev work)
+pub running_at : (ev : Evaluator) (work : Work) (n : ℕ) → IsReady ev work → IsNoEnd (work_item ev work)
     → ((f : ℕ) (more : List ℕ) → calls_in ev.frames ≡ f ∷ more → n ≡ f) → RunningAt ev n
 running_at ev work n ready not_end found =
     let inside = ready_inside ev work ev.hand ready.2 refl ready.1 not_end ready.3 in

@@ -1,20 +1,22 @@
 -- A program that is sound and obeys the lending rule: no reached piece of it is stuck, so fork and join mean the elision.
-use Rattle.std.proofs.Common.{ap, ◌≡◌, ℕ, ◌*◌, ◌≤◌, List, [], Option, Some, refl, subst, arith, inl, inr}
-use Rattle.std.specs.Prelude.{Bool, true, false, ◌⊎◌, ℤ, ⊤, slice_get}
+use Rattle.std.proofs.Common.{◌≡◌, ℕ, ◌*◌, ◌≤◌, List, [], Option, Some, refl, subst, arith, inl, inr}
+use Rattle.std.specs.Prelude.{Bool, true, ◌⊎◌, ℤ, ⊤, slice_get}
 use Rattle.cm_syntax.specs.declared.stmt.Function.{Function}
 use Rattle.cm_syntax.specs.declared.stmt.Program.{Program}
 use Rattle.cm_syntax.specs.Evaluation.{function_order}
 use Rattle.cm_syntax.specs.Fault.{IsSoundProgram}
 use Rattle.cm_syntax.specs.Lending.{IsAccepted}
-use Rattle.cm_syntax.specs.Cell.{Cell, absent, unset, present, shared, share_in, may_write, ComesBack}
+use Rattle.cm_syntax.specs.Cell.{Cell, may_write, ComesBack}
 use Rattle.cm_syntax.specs.Stack.{Stack, Destination, empty_stack}
 use Rattle.cm_syntax.specs.Rest.{Control}
 use Rattle.cm_syntax.specs.Step.{step, inside}
+use Rattle.cm_syntax.proofs.CellLaw.{back_same, back_whole}
+use Rattle.cm_meaning.proofs.TypedFramesLaw.{present_held}
 use Rattle.cm_meaning.specs.End.{End, Done}
 use Rattle.cm_meaning.specs.Piece.{Own, Answer, child, HasNote, itself, then, its_child}
 use Rattle.cm_meaning.specs.Meaning.{Limits, Ask, Piece, Fork, ForkEnd, Reached, Stops, AllDone, IsNeverStuck, HoldSameCells, begun, main_ask, first_control, EndsAs, SerialEnd}
 use Rattle.cm_meaning.specs.Measure.{frame_bytes, IsGreatest, IsSerialPages}
-use Rattle.cm_meaning.specs.Range.{IsPage}
+use Rattle.cm_maps.specs.Pages.{IsPage}
 use Rattle.cm_meaning.specs.Typing.{TypedProgram}
 use Rattle.cm_meaning.proofs.LendingLaw.{Obeys, obedient}
 use Rattle.cm_meaning.proofs.SumLaw.{alone_, under_nothing}
@@ -40,28 +42,10 @@ obeys program accepted index function e =
     let among = Contains-at program.functions index function e in
     obedient (function_order function) (λ walk w spawn variable at l. accepted.lent at spawn (function, among, (variable, (walk, w, l)))) (λ at d. accepted.same at (function, among, d))
 
-comes_same : {A : Type 0} (a b : Cell A) → b ≡ a → ComesBack a b
-comes_same absent b e = ap share_in e
-comes_same unset b e = ap share_in e
-comes_same (present v) b e = ap share_in e
-comes_same (shared p v) b e = e
-
 -- what changed was lent whole and comes back whole
 comes : {A : Type 0} (a b : Cell A) → (b ≡ a) ⊎ ((may_write a ≡ true) × IsPresent b) → ComesBack a b
-comes a b (inl e) = comes_same a b e
-comes absent b (inr e) = cc e.0
-comes unset absent (inr e) = absurd e.1
-comes unset unset (inr e) = refl
-comes unset (present w) (inr e) = refl
-comes unset (shared q w) (inr e) = absurd e.1
-comes (present v) absent (inr e) = absurd e.1
-comes (present v) unset (inr e) = refl
-comes (present v) (present w) (inr e) = refl
-comes (present v) (shared q w) (inr e) = absurd e.1
-comes (shared p v) b (inr e) = absurd (not_whole e.0)
-  where
-    not_whole : false ≡ true → ⊥
-    not_whole k = cc k
+comes a b (inl e) = back_same a b e
+comes a b (inr e) = back_whole a b e.0 (present_held b e.1)
 
 module _ (program : Program) (input : List ℤ) (limits : Limits) (sound : IsSoundProgram program) (accepted : IsAccepted program) where
   abbrev First : Piece
@@ -121,7 +105,7 @@ module _ (program : Program) (input : List ℤ) (limits : Limits) (sound : IsSou
   -- a child that is Done gives back the words that it was lent
   pub given_back : (p : Piece) (d own : ℕ) (x : Destination) (joined : Bool) (ask : Ask) (r : Answer Control Stack Destination) → Reached program limits.page input First p → HasNote Control Stack Destination p.log (child d own x joined ask r)
       → (out : List ℤ) (v : Option ℤ) (n : ℕ) (w : Stack) → Fork program limits.page input (begun ask) (Done out v n) w → HoldSameCells ask.lent w
-  given_back p d own x joined ask r reached note out v n w f = record { words = λ e t j. comes (ask.lent.words e t j) (w.words e t j) (back.words e t j); references = λ e t. comes_same (ask.lent.references e t) (w.references e t) (back.references e t) }
+  given_back p d own x joined ask r reached note out v n w f = record { words = λ e t j. comes (ask.lent.words e t j) (w.words e t j) (back.words e t j); references = λ e t. back_same (ask.lent.references e t) (w.references e t) (back.references e t) }
     where
       back : Returned ask.lent w
       back = note_returned program limits.page input typed (sound_sees program sound) (obeys program accepted) {p = p} (reached_fine p reached) note out v n w f

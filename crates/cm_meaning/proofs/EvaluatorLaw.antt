@@ -1,42 +1,44 @@
 -- What the state of an evaluator tells at a piece of work, and how a piece of work does its step.
-use Rattle.std.proofs.Common.{of_z, ◌≡◌, ℕ, zero, suc, ◌+◌, ◌<◌, ◌≤◌, List, [], ◌∷◌, ◌++◌, length, reverse, take, drop, Option, None, Some, Result, Ok, Err, refl, sym, ap, ◌∙◌, subst, arith}
+use Rattle.std.proofs.Common.{of_z, ◌≡◌, ℕ, zero, suc, ◌+◌, ◌<◌, ◌≤◌, List, [], ◌∷◌, ◌++◌, length, reverse, take, drop, Option, None, Some, Result, Ok, Err, refl, sym, ap, ◌∙◌, subst, arith, option_map}
 use Rattle.std.specs.Prelude.{Bool, true, false, ◌==◌, if◌then◌else◌, ℤ, pos, negsuc, slice_get, IsSome, IfOk, OnOk}
 use Rattle.std.specs.Int.{w32}
 use Rattle.std.proofs.lemmas.Bool.{eq-eqb, ltb-true}
 use Rattle.std.proofs.lemmas.List.{reverse-append}
 use mathlib.Core.Former.{Count}
-use Rattle.cm_syntax.specs.declared.expr.Mark.{Mark}
-use Rattle.cm_syntax.specs.declared.expr.Expr.{Expr}
 use Rattle.cm_syntax.specs.declared.expr.Expr.TheVariants as expression
 use Rattle.cm_syntax.specs.declared.expr.Call.{Call, Row_of-Arg, end_of-Arg, more_of-Arg, items-the_row-Arg, items_hidden-the_row-Arg-1}
 use Rattle.cm_syntax.specs.declared.stmt.Stmt.{Stmt, Row_of-Stmt, end_of-Stmt, more_of-Stmt, items-the_row-Stmt, items_hidden-the_row-Stmt-1}
 use Rattle.cm_syntax.specs.declared.stmt.Stmt.TheVariants as statement
 use Rattle.cm_syntax.specs.declared.stmt.Slot.{Slot}
 use Rattle.cm_syntax.specs.declared.stmt.Slot.TheVariants as slot
+use Rattle.cm_syntax.specs.declared.stmt.Extent.{Extent}
+use Rattle.cm_syntax.specs.declared.stmt.Extent.TheVariants as extent
+use Rattle.cm_syntax.specs.Extent.{extent_of, extent_at}
 use Rattle.cm_syntax.specs.declared.stmt.Function.{Function}
 use Rattle.cm_syntax.specs.declared.stmt.Program.{Program}
-use Rattle.cm_syntax.specs.Frame.{slots_words, frame_words}
+use Rattle.cm_syntax.specs.Frame.{slots_words, frame_words, extent_words}
 use Rattle.cm_syntax.specs.Limit.{max_frame_words}
 use Rattle.cm_syntax.specs.Operator.{is_zero}
-use Rattle.cm_syntax.specs.Label.{silent, traps}
-use Rattle.cm_syntax.specs.Cell.{Cell, absent, unset, present, shared}
+use Rattle.cm_syntax.specs.Label.{silent}
+use Rattle.cm_syntax.specs.Cell.{present}
 use Rattle.cm_syntax.specs.Stack.{Reference, Stack, Destination}
 use Rattle.cm_syntax.specs.Rest as rest
 use Rattle.cm_syntax.specs.Step.{Move, top, slots_in, slot_at, slice_in, when_readable, item_step, step, inside, is_index}
+use Rattle.cm_syntax.proofs.Rows.{row_of_call, row_of_block}
 use Rattle.cm_meaning.specs.declared.evaluator.Evaluator.{Evaluator}
 use Rattle.cm_meaning.specs.declared.work.Hand.{Hand}
 use Rattle.cm_meaning.specs.declared.work.Hand.TheVariants as hands
 use Rattle.cm_meaning.specs.declared.work.Work.{Work}
 use Rattle.cm_meaning.specs.declared.work.Outcome.{Outcome}
 use Rattle.cm_meaning.specs.declared.work.Outcome.TheVariants as outcomes
-use Rattle.cm_meaning.specs.declared.ended.Trap.{Trap}
-use Rattle.cm_meaning.specs.Ended.{trap_of}
 use Rattle.cm_meaning.specs.Elision.{serial}
 use Rattle.cm_meaning.specs.Meaning.{serial_step}
 use Rattle.cm_meaning.specs.Typing.{IsRow, IsSetScalar, IsSetRow}
-use Rattle.cm_meaning.specs.TypedState.{IsPresent, row_words, row_length, reference_length, IsSet, AreSet, AtHand, value, back, at_hand, slots_at, IsReference, Inner, Outer, Running, Ready}
+use Rattle.cm_meaning.specs.TypedState.{IsPresent, row_words, own_words, extent_length, reference_length, IsSet, AreSet, AtHand, back, at_hand, slots_at, IsReference, Inner, Outer, Running, Ready}
 use Rattle.cm_meaning.specs.Layout.{calls_in, room_in, FitFrames, IsWordAt, slot_in, Shows, IsRowOf}
-use Rattle.cm_meaning.specs.Evaluator.{arguments_row, statements_row, item_of, items_of, work_count, hand_of, hand_count, passed_in, control_with, control_in, IsKept, IsTypedAt, IsPlain, IsValue, IsReady, IsRunning, IsSameRun, Leads, Does, Puts}
+use Rattle.cm_meaning.specs.Evaluator.{arguments_row, statements_row, item_of, items_of, work_count, hand_of, hand_count, passed_in, control_with, control_in, IsKept, IsTypedAt, IsPlain, IsReady, IsSameRun, Leads, Does, Puts}
+use Rattle.cm_meaning.proofs.TypedFramesLaw.{present_value}
+use Rattle.cm_meaning.proofs.Walk.{IsNoEnd}
 
 -- ---- states
 
@@ -128,10 +130,6 @@ puts_held old new before y is puts = subst (λ z. Puts old before z new) is puts
 pub reverse_push : (xs ys : List Work) (x : Work) → ys ≡ xs ++ x ∷ [] → reverse ys ≡ x ∷ reverse xs
 reverse_push xs ys x e = ap reverse e ∙ reverse-append xs (x ∷ [])
 
--- nothing changes
-pub puts_nothing : (ev : Evaluator) → Puts ev [] ev.hand ev
-puts_nothing ev = (refl, refl)
-
 -- a piece of work that comes, by a silent step, to this state
 pub does_by : (old new : Evaluator) (work : Work) (y : Hand) (outcome : Outcome) → IsReady old work → old.hand ≡ y → outcome ≡ outcomes.Going
     → IsKept new → IsSameRun old new
@@ -169,23 +167,6 @@ pub hold_does : {E : Type 0} (old new : Evaluator) (work : Work) (y : Hand) (v w
 hold_does old new work y v w result ready is going puts same moves = put_does old new work y [] (hands.Value w) result ready is going
     (subst (λ v. OnOk result (Puts old [] (hands.Value v) new)) same puts) moves
 
--- a piece of work that traps, and the state is as it was
-pub traps_does : (old new : Evaluator) (work : Work) (y : Hand) (outcome : Outcome) (kind : Trap)
-    → IsReady old work → old.hand ≡ y → outcome ≡ outcomes.Trapped kind → new ≡ old
-    → ((h : Stack) → IsTypedAt old (control_with (work ∷ []) old) h → work_move old y work h ≡ traps (trap_of kind))
-    → Does old work outcome new
-traps_does old new work y outcome kind ready is trapped same moves = record {
-  kept = subst IsKept (sym same) ready.0;
-  same = record {
-    program = ap (λ ev. ev.program.now) same;
-    input = ap (λ ev. ev.input.now) same;
-    page = ap (λ ev. ev.page) same;
-    room = ap (λ ev. room_in ev.frames) same;
-  };
-  leads = λ h at. subst (λ o. Leads o (serial_step old.program.now old.page old.input.now (control_with (work ∷ []) old) h) new) (sym trapped)
-      (serial_move old y work h is ready.1 ∙ ap (elided old h) (moves h at));
-}
-
 -- ---- rows
 
 -- a row is that of its items
@@ -197,38 +178,17 @@ pub statements_row_is : (n : Count) (row : Row_of-Stmt ℕ n) → statements_row
 statements_row_is n end_of-Stmt = refl
 statements_row_is n (more_of-Stmt first more) = ap (λ p. (_, more_of-Stmt first p.1)) (statements_row_is _ more)
 
--- the row of a call's arguments
-abbrev pub row_of_call : Expr ℕ → (n : Count) × Row_of-Arg ℕ n
-row_of_call (expression.Call' _ _ row) = (_, row)
-row_of_call _ = (_, end_of-Arg)
-
--- they are those that the code has
+-- the row of a call's arguments is that of the code's list
 pub call_row : (call : Call ℕ) → row_of_call (expression.Call call) ≡ arguments_row call.arguments
 call_row call = let row = row_of_call (expression.Call call) in
     sym (arguments_row_is row.0 row.1) ∙ ap arguments_row (items_hidden-the_row-Arg-1 ℕ call.arguments)
 
--- the row of a block's statements
-abbrev pub row_of_block : Stmt ℕ → (n : Count) × Row_of-Stmt ℕ n
-row_of_block (statement.Block' _ row) = (_, row)
-row_of_block (statement.Split' _ _ _ _ _ row _) = (_, row)
-row_of_block _ = (_, end_of-Stmt)
-
--- they are those that the code has, in a block and in a split
+-- and of a block's statements
 pub block_row : (body : List (Stmt ℕ)) → row_of_block (statement.Block body) ≡ statements_row body
 block_row body = let row = row_of_block (statement.Block body) in
     sym (statements_row_is row.0 row.1) ∙ ap statements_row (items_hidden-the_row-Stmt-1 ℕ body)
 
-pub split_row : (whole : Mark ℕ) (index : Expr ℕ) (left right : Mark ℕ) (body : List (Stmt ℕ)) (close : ℕ)
-    → row_of_block (statement.Split whole index left right body close) ≡ statements_row body
-split_row whole index left right body close = let row = row_of_block (statement.Split whole index left right body close) in
-    sym (statements_row_is row.0 row.1) ∙ ap statements_row (items_hidden-the_row-Stmt-1 ℕ body)
-
 -- ---- the running function
-
--- an item that doesn't end a call
-abbrev pub NotEnd : rest.Item → Type 0
-NotEnd rest.end = ⊥
-NotEnd _ = Unit {0}
 
 -- the running function with its items, of some calls
 pub record Inside (program : Program) (h : Stack) (calls : List ℕ) (a : AtHand) (k : List rest.Item) : Type 0 where
@@ -242,7 +202,7 @@ pub record Inside (program : Program) (h : Stack) (calls : List ℕ) (a : AtHand
   pub inner : Inner program h function (f ∷ callers) (length callers) (Outer program h true callers (back function.gives)) set a k
 
 -- some function runs where an item is to be done
-pub running_inside : (program : Program) (h : Stack) (calls : List ℕ) (a : AtHand) (item : rest.Item) (k : List rest.Item) → NotEnd item
+pub running_inside : (program : Program) (h : Stack) (calls : List ℕ) (a : AtHand) (item : rest.Item) (k : List rest.Item) → IsNoEnd item
     → Running program h true calls a (item ∷ k) → Inside program h calls a (item ∷ k)
 running_inside program h [] a item k n r = absurd (cc r.1)
 running_inside program h (f ∷ calls) a rest.end k n r = absurd n
@@ -250,7 +210,7 @@ running_inside program h (f ∷ calls) a item k n (function, there, set, are_set
     record { f = f; callers = calls; are = refl; function = function; there = there; set = set; are_set = are_set; inner = inner }
 
 -- the running function at a piece of work, with the value that is at hand or whatever is
-pub ready_inside : (ev : Evaluator) (work : Work) (y : Hand) (h : Stack) → ev.hand ≡ y → IsPlain ev.hand → NotEnd (work_item ev work)
+pub ready_inside : (ev : Evaluator) (work : Work) (y : Hand) (h : Stack) → ev.hand ≡ y → IsPlain ev.hand → IsNoEnd (work_item ev work)
     → IsTypedAt ev (control_with (work ∷ []) ev) h
     → Inside ev.program.now h (calls_in ev.frames) (at_hand (hand_of y [])) (work_item ev work ∷ behind_work ev work)
 ready_inside ev work y h is p n at = by y plain (subst (λ c. Ready ev.program.now h true c.calls c.hand c.rest)
@@ -267,14 +227,6 @@ ready_inside ev work y h is p n at = by y plain (subst (λ c. Ready ev.program.n
     by (hands.Entering f count) p r = absurd p
     by (hands.Framing f count) p r = absurd p
 
--- where the items want a value at hand there is one
-pub hand_is_value : (y : Hand) → at_hand (hand_of y []) ≡ value → IsValue y
-hand_is_value hands.Idle e = absurd (cc e)
-hand_is_value (hands.Value v) e = tt
-hand_is_value (hands.Returned v) e = absurd (cc e)
-hand_is_value (hands.Entering f count) e = absurd (cc e)
-hand_is_value (hands.Framing f count) e = absurd (cc e)
-
 -- ---- what is tested and read
 
 -- a word with other bits than 0 isn't 0
@@ -283,19 +235,16 @@ word_is_true (pos zero) h = absurd (h refl)
 word_is_true (pos (suc n)) h = refl
 word_is_true (negsuc n) h = refl
 
-pub present_value : {A : Type 0} (cell : Cell A) → IsPresent cell → (v : A) × (cell ≡ present v)
-present_value absent p = absurd p
-present_value unset p = absurd p
-present_value (present v) p = (v, refl)
-present_value (shared q v) p = absurd p
-
 -- ---- the words of a row are within a frame
 
 row_within : (slots : List Slot) (x : ℕ) → row_words (slice_get slots x) ≤ slots_words slots
 row_within [] x = omega arith
-row_within (slot.Scalar ∷ more) zero = omega arith
-row_within (slot.Array n ∷ more) zero = omega arith
-row_within (slot.Slice ∷ more) zero = omega arith
+row_within (first ∷ more) zero = omega (arith, one (extent_of first))
+  where
+    one : (e : Extent) → own_words (Some e) ≤ extent_words e
+    one extent.Word = omega arith
+    one (extent.Words n) = omega arith
+    one extent.Reference = omega arith
 row_within (first ∷ more) (suc x) = omega (arith, row_within more x)
 
 function_row : (o : Option (Function ℕ)) (x : ℕ) → ((function : Function ℕ) → o ≡ Some function → frame_words function ≤ max_frame_words)
@@ -319,26 +268,26 @@ slots_of_first program f callers function there = let one : (length callers == l
 -- ---- a row of the running function
 
 -- what a reference to a row of the running function tells
-pub record RowAt (program : Program) (h : Stack) (calls : List ℕ) (depth : ℕ) (kind : Option Slot) (x : ℕ) (r : Reference) : Type 0 where
+pub record RowAt (program : Program) (h : Stack) (calls : List ℕ) (depth : ℕ) (kind : Option Extent) (x : ℕ) (r : Reference) : Type 0 where
   pub fits : IsReference program h calls r
   pub reads : (goes_on : Reference → Move) → slice_in calls h kind x goes_on ≡ goes_on r
-  pub length : row_length h depth x kind ≡ r.length
+  pub length : extent_length h depth x kind ≡ r.length
 
 module _ (program : Program) (h : Stack) (calls : List ℕ) (x : ℕ) (r : Reference)
     (refers : (d s : ℕ) (r : Reference) → h.references d s ≡ present r → (r.depth ≤ d) × IsReference program h calls r)
     (live : top calls < length calls) where
   row_by : (o : Option Slot) → slice_get (slots_at program calls (top calls)) x ≡ o → IsRow o → IsSet h (top calls) x o → IsRowOf h calls x o r
-      → RowAt program h calls (top calls) o x r
+      → RowAt program h calls (top calls) (option_map extent_of o) x r
   row_by None at row set is = absurd row
   row_by (Some slot.Scalar) at row set is = absurd row
-  row_by (Some (slot.Array n)) at row set is = subst (RowAt program h calls (top calls) (Some (slot.Array n)) x) (sym is) (record {
+  row_by (Some (slot.Array n)) at row set is = subst (RowAt program h calls (top calls) (Some (extent.Words n)) x) (sym is) (record {
     fits = record { live = live; within = omega (arith, ap row_words at); set = λ i l m. set i (omega arith) };
     reads = λ goes_on. refl;
     length = refl;
   })
   row_by (Some slot.Slice) at row set is =
       let p = present_value (h.references (top calls) x) set in
-      subst (RowAt program h calls (top calls) (Some slot.Slice) x) (sym (is p.0 p.1)) (record {
+      subst (RowAt program h calls (top calls) (Some extent.Reference) x) (sym (is p.0 p.1)) (record {
         fits = (refers (top calls) x p.0 p.1).1;
         reads = λ goes_on. ap (λ c. when_readable c goes_on) p.1;
         length = ap reference_length p.1;
@@ -347,9 +296,6 @@ module _ (program : Program) (h : Stack) (calls : List ℕ) (x : ℕ) (r : Refer
 -- ---- the running function at a state that is kept
 
 module _ (ev : Evaluator) (kept : IsKept ev) (h : Stack) (a : AtHand) (k : List rest.Item) (inside : Inside ev.program.now h (calls_in ev.frames) a k) where
-  pub is_running : IsRunning ev
-  is_running = omega (arith, ap length inside.are)
-
   pub top_is : top (calls_in ev.frames) ≡ length inside.callers
   top_is = ap top inside.are
 
@@ -364,12 +310,8 @@ module _ (ev : Evaluator) (kept : IsKept ev) (h : Stack) (a : AtHand) (k : List 
   pub slot_is : (x : ℕ) → slot_in ev.frames x ≡ slice_get inside.function.slots x
   slot_is x = ap (λ p. slice_get (slots_at p (calls_in ev.frames) (top (calls_in ev.frames))) x) kept.program ∙ ap (λ slots. slice_get slots x) slots_are
 
-  pub slot_at_is : (x : ℕ) → slot_at ev.program.now ev.page ev.input.now (calls_in ev.frames) x ≡ slice_get inside.function.slots x
-  slot_at_is x = ap (λ calls. slot_at ev.program.now ev.page ev.input.now calls x) inside.are ∙ ap (λ o. slice_get (slots_in o) x) inside.there
-
-  -- a scalar has its word, and where it was set a value
-  pub scalar_word : (x : ℕ) → slice_get inside.function.slots x ≡ Some slot.Scalar → IsWordAt ev.frames (top (calls_in ev.frames)) x 0
-  scalar_word x is = (top_lives, omega (arith, ap row_words (slot_is x ∙ is)))
+  pub slot_at_is : (x : ℕ) → slot_at ev.program.now ev.page ev.input.now (calls_in ev.frames) x ≡ extent_at inside.function.slots x
+  slot_at_is x = ap (λ calls. slot_at ev.program.now ev.page ev.input.now calls x) inside.are ∙ ap (λ o. extent_at (slots_in o) x) inside.there
 
   pub scalar_value : (x : ℕ) → IsSetScalar ev.program.now.functions inside.function.slots inside.set x
       → (v : ℤ) × (h.words (top (calls_in ev.frames)) x 0 ≡ present v)
@@ -380,7 +322,7 @@ module _ (ev : Evaluator) (kept : IsKept ev) (h : Stack) (a : AtHand) (k : List 
   -- an array or a slice that was set
   pub row_at : (x : ℕ) (r : Reference) → ((d s : ℕ) (r : Reference) → h.references d s ≡ present r → (r.depth ≤ d) × IsReference ev.program.now h (calls_in ev.frames) r)
       → IsSetRow ev.program.now.functions inside.function.slots inside.set x → IsRowOf h (calls_in ev.frames) x (slot_in ev.frames x) r
-      → RowAt ev.program.now h (calls_in ev.frames) (top (calls_in ev.frames)) (slice_get inside.function.slots x) x r
+      → RowAt ev.program.now h (calls_in ev.frames) (top (calls_in ev.frames)) (extent_at inside.function.slots x) x r
   row_at x r refers s is = row_by ev.program.now h (calls_in ev.frames) x r refers top_lives (slice_get inside.function.slots x) (ap (λ slots. slice_get slots x) slots_are) s.1
       (subst (λ d. IsSet h d x (slice_get inside.function.slots x)) (sym top_is) (inside.are_set x s.0))
       (subst (λ o. IsRowOf h (calls_in ev.frames) x o r) (slot_is x) is)

@@ -26,6 +26,7 @@ use Rattle.cm_syntax.specs.ParseTree as grammar
 use Rattle.cm_syntax.specs.Lowering.{lower_expression, lower_call, lower_arguments, lower_argument, lower_any, lower_optional, lower_item, lower_items, lower_target, lower_step, lower_simple, lower_first_part, lower_last_part, lower_plain, lower_statements, lower_parameter, lower_parameter_list, lower_parameters, lower_function, lower_program}
 use Rattle.cm_syntax.specs.Refusal.{IsSoundTree}
 use Rattle.cm_syntax.proofs.StatementLaw.{If-Alone, If-Else, While-Loop, For-Loop}
+use Rattle.cm_syntax.proofs.Rows.{row_of_call, row_of_block}
 use Rattle.cm_meaning.specs.Typing.{is_arithmetic, IsUpdate, IsParameter}
 
 -- ---- definitions
@@ -127,11 +128,6 @@ row_formed : (n : _) (row : Row_of-Arg Name n) → FormedList (items-the_row-Arg
 row_formed n end_of-Arg h = h
 row_formed n (more_of-Arg first more) h = (h.0, row_formed _ more h.1)
 
--- the arguments of a call, as the row that it holds
-abbrev row_of_call : Expr Name → (n : _) × Row_of-Arg Name n
-row_of_call (expression.Call' _ _ row) = (_, row)
-row_of_call _ = (_, end_of-Arg)
-
 formed-Call : (call : Call Name) → FormedList call.arguments → FormedExpression (expression.Call call)
 formed-Call call h =
     let row = row_of_call (expression.Call call) in
@@ -140,12 +136,6 @@ formed-Call call h =
 sequence_formed : (n : _) (row : Row_of-Stmt Name n) → FormedBody (items-the_row-Stmt Name n row) → FormedSequence row
 sequence_formed n end_of-Stmt h = h
 sequence_formed n (more_of-Stmt first more) h = (h.0, sequence_formed _ more h.1)
-
--- the statements of a block, as the row that it holds
-abbrev row_of_block : Stmt Name → (n : _) × Row_of-Stmt Name n
-row_of_block (statement.Block' _ row) = (_, row)
-row_of_block (statement.Split' _ _ _ _ _ row _) = (_, row)
-row_of_block _ = (_, end_of-Stmt)
 
 formed-Block : (body : List (Stmt Name)) → FormedBody body → FormedStatement (statement.Block body)
 formed-Block body h =

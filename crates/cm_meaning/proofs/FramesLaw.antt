@@ -7,7 +7,9 @@ use Rattle.std.proofs.lemmas.List.{length-map, take_more}
 use Rattle.std.proofs.lemmas.Bool.{cases_order, ne_eqb, eq-eqb}
 use Rattle.std.proofs.lemmas.Bool.Decides.{eqb_tells}
 use Rattle.cm_syntax.specs.declared.stmt.Slot.{Slot}
-use Rattle.cm_syntax.specs.declared.stmt.Slot.TheVariants as slot
+use Rattle.cm_syntax.specs.declared.stmt.Extent.{Extent}
+use Rattle.cm_syntax.specs.declared.stmt.Extent.TheVariants as extent
+use Rattle.cm_syntax.specs.Extent.{extent_of}
 use Rattle.cm_syntax.specs.declared.stmt.Function.{Function}
 use Rattle.cm_syntax.specs.declared.stmt.Program.{Program}
 use Rattle.cm_syntax.specs.Frame.{slot_words, slots_words, frame_words}
@@ -15,8 +17,8 @@ use Rattle.cm_syntax.specs.Step.{top, slots_in}
 use Rattle.cm_meaning.specs.declared.frames.Frame as frame
 use Rattle.cm_meaning.specs.declared.frames.Layout as layout
 use Rattle.cm_meaning.specs.declared.frames.Frames.{Frames}
-use Rattle.cm_meaning.specs.TypedState.{slots_at, row_words}
-use Rattle.cm_meaning.specs.Layout.{words_in, frames_words, base_at, address, offsets_from, layout_of, frames_of, program_in, calls_in, room_in, AreKnown, IsLaidOut, place_words}
+use Rattle.cm_meaning.specs.TypedState.{slots_at, row_words, own_words}
+use Rattle.cm_meaning.specs.Layout.{words_in, frames_words, base_at, address, offsets_from, layout_of, frames_of, program_in, calls_in, room_in, AreKnown, IsLaidOut, place_words, taken_words}
 
 -- ---- lists
 
@@ -81,10 +83,13 @@ one_offset slots x y i j l m e = elim (cases_order x y) [
 
 -- a slot with a row has at least its words
 pub row_place : (o : Option Slot) → row_words o ≤ place_words o
-row_place None = omega arith
-row_place (Some slot.Scalar) = omega arith
-row_place (Some (slot.Array n)) = omega arith
-row_place (Some slot.Slice) = omega arith
+row_place o = by (option_map extent_of o)
+  where
+    by : (e : Option Extent) → own_words e ≤ taken_words e
+    by None = omega arith
+    by (Some extent.Word) = omega arith
+    by (Some (extent.Words n)) = omega arith
+    by (Some extent.Reference) = omega arith
 
 pub frame_holds : (o : Option (Function ℕ)) → slots_words (slots_in o) ≤ words_in o
 frame_holds None = omega arith

@@ -5,14 +5,16 @@ use Rattle.cm_syntax.specs.declared.expr.Op.{Op}
 use Rattle.cm_syntax.specs.declared.expr.Expr.{Expr}
 use Rattle.cm_syntax.specs.declared.expr.Call.{Row_of-Arg}
 use Rattle.cm_syntax.specs.declared.stmt.Slot.{Slot}
-use Rattle.cm_syntax.specs.declared.stmt.Slot.TheVariants as slot
+use Rattle.cm_syntax.specs.declared.stmt.Extent.{Extent}
+use Rattle.cm_syntax.specs.declared.stmt.Extent.TheVariants as extent
+use Rattle.cm_syntax.specs.Extent.{extent_at}
 use Rattle.cm_syntax.specs.declared.stmt.Stmt.{Stmt}
 use Rattle.cm_syntax.specs.declared.stmt.Function.{Function}
 use Rattle.cm_syntax.specs.declared.stmt.Program.{Program}
 use Rattle.cm_syntax.specs.Stack.{Reference, Stack, Argument, word, slice}
 use Rattle.cm_syntax.specs.Rest.{Item, evaluate, right, apply, prefix, both, either, truth, element, read, arguments, pass, take_back, discard, deliver, perform, sequence, body, declare, assign, update, locate, store, branch, turn, test, part, tick, show, exit, fall, join, end}
 use Rattle.cm_meaning.specs.Typing.{IsSetRow, TypedExpression, TypedStatement, set_by_items, set_behind}
-use Rattle.cm_meaning.specs.TypedState.{IsPresent, IsSet, AreSet, AtHand, nothing, value, back, at_join, IsReference, FitsParameter, FitParameters, HasNoStore, row_length, reference_length, TypedOther, TypedLoop, FitsCall, FitsPass, Inner, Outer}
+use Rattle.cm_meaning.specs.TypedState.{IsPresent, IsSet, AreSet, AtHand, nothing, value, back, at_join, IsReference, FitParameters, HasNoStore, row_length, reference_length, TypedOther, TypedLoop, FitsCall, FitsPass, Inner, Outer, IsThere, FitsExtent, extent_length}
 use Rattle.cm_meaning.proofs.WeakeningLaw.{IsAmong, among_first, among_items, among_behind, more_scalar, more_row, more_expression, more_arguments, more_optional, more_items, more_statement, more_sequence, more_body}
 
 -- what is set in the frames before this depth is set in the other stack too
@@ -30,22 +32,22 @@ grows_before n h g k = record {
   references = λ d s l. k.references d s (omega (arith, l));
 }
 
-row_same : (h g : Stack) (depth a : ℕ) (z : Option Slot) → h.references depth a ≡ g.references depth a → row_length h depth a z ≡ row_length g depth a z
-row_same h g depth a (Some slot.Slice) e = ap reference_length e
-row_same h g depth a (Some slot.Scalar) e = refl
-row_same h g depth a (Some (slot.Array n)) e = refl
+row_same : (h g : Stack) (depth a : ℕ) (z : Option Extent) → h.references depth a ≡ g.references depth a → extent_length h depth a z ≡ extent_length g depth a z
+row_same h g depth a (Some extent.Reference) e = ap reference_length e
+row_same h g depth a (Some extent.Word) e = refl
+row_same h g depth a (Some (extent.Words n)) e = refl
 row_same h g depth a None e = refl
 
-pub set_moves : (h g : Stack) (depth x : ℕ) (z : Option Slot) → ((i : ℕ) → IsPresent (h.words depth x i) → IsPresent (g.words depth x i))
-    → (IsPresent (h.references depth x) → IsPresent (g.references depth x)) → IsSet h depth x z → IsSet g depth x z
+pub set_moves : (h g : Stack) (depth x : ℕ) (z : Option Extent) → ((i : ℕ) → IsPresent (h.words depth x i) → IsPresent (g.words depth x i))
+    → (IsPresent (h.references depth x) → IsPresent (g.references depth x)) → IsThere h depth x z → IsThere g depth x z
 set_moves h g depth x None words references s = s
-set_moves h g depth x (Some slot.Scalar) words references s = λ i l. words i (s i l)
-set_moves h g depth x (Some (slot.Array n)) words references s = λ i l. words i (s i l)
-set_moves h g depth x (Some slot.Slice) words references s = references s
+set_moves h g depth x (Some extent.Word) words references s = λ i l. words i (s i l)
+set_moves h g depth x (Some (extent.Words n)) words references s = λ i l. words i (s i l)
+set_moves h g depth x (Some extent.Reference) words references s = references s
 
 pub sets_move : (h g : Stack) (n depth : ℕ) (slots : List Slot) (set : List ℕ) → depth < n → Grows n h g → AreSet h depth slots set → AreSet g depth slots set
 sets_move h g n depth slots set l k are x c =
-    set_moves h g depth x (slice_get slots x) (λ i. k.words depth x i l) (λ p. subst IsPresent (k.references depth x l) p) (are x c)
+    set_moves h g depth x (extent_at slots x) (λ i. k.words depth x i l) (λ p. subst IsPresent (k.references depth x l) p) (are x c)
 
 module _ (functions : List (Function ℕ)) (function : Function ℕ) where
   more_other : (o : Option (Stmt ℕ)) (set more : List ℕ) → IsAmong set more → TypedOther functions function set o → TypedOther functions function more o
@@ -60,9 +62,9 @@ module _ (program : Program) (h g : Stack) where
   pub reference_moves : (calls : List ℕ) (r : Reference) → KeepsWords (length calls) h g → IsReference program h calls r → IsReference program g calls r
   reference_moves calls r k i = record { live = i.live; within = i.within; set = λ j l m. k r.depth r.slot j i.live (i.set j l m) }
 
-  argument_moves : (calls : List ℕ) (w : Argument) (z : Option Slot) → KeepsWords (length calls) h g → FitsParameter program h calls w z → FitsParameter program g calls w z
-  argument_moves calls (word v) (Some slot.Scalar) k f = tt
-  argument_moves calls (slice r) (Some slot.Slice) k f = reference_moves calls r k f
+  argument_moves : (calls : List ℕ) (w : Argument) (z : Option Extent) → KeepsWords (length calls) h g → FitsExtent program h calls w z → FitsExtent program g calls w z
+  argument_moves calls (word v) (Some extent.Word) k f = tt
+  argument_moves calls (slice r) (Some extent.Reference) k f = reference_moves calls r k f
   argument_moves calls (word v) None k f = absurd f
   argument_moves calls (word v) (Some _) k f = absurd f
   argument_moves calls (slice r) None k f = absurd f
@@ -70,7 +72,7 @@ module _ (program : Program) (h g : Stack) where
 
   pub arguments_move : (calls : List ℕ) (ws : List Argument) (parameters : List Slot) → KeepsWords (length calls) h g → FitParameters program h calls ws parameters → FitParameters program g calls ws parameters
   arguments_move calls [] parameters k f = tt
-  arguments_move calls (w ∷ ws) parameters k f = (argument_moves calls w (slice_get parameters (length ws)) k f.0, arguments_move calls ws parameters k f.1)
+  arguments_move calls (w ∷ ws) parameters k f = (argument_moves calls w (extent_at parameters (length ws)) k f.0, arguments_move calls ws parameters k f.1)
 
   module _ (function : Function ℕ) (calls : List ℕ) (depth : ℕ) (after later : List Item → Type 0)
       (keeps : KeepsWords (length calls) h g) (goes : (k : List Item) → after k → later k) where
@@ -102,7 +104,7 @@ module _ (program : Program) (h g : Stack) where
     store_moves : (x i : ℕ) (k : List Item) (o : Option Op) → HasNoStore (store x i o ∷ k) ⊎ Same → i < row_length h depth x (slice_get function.slots x) → i < row_length g depth x (slice_get function.slots x)
     store_moves x i k o steady l = elim steady [
       | inl none ↦ absurd none
-      | inr same ↦ subst (λ q. i < q) (row_same h g depth x (slice_get function.slots x) (same x)) l
+      | inr same ↦ subst (λ q. i < q) (row_same h g depth x (extent_at function.slots x) (same x)) l
     ]
 
     -- a rest that waits for no element, or whose frame keeps its references, fits the other stack where more is set

@@ -5,6 +5,9 @@ use Rattle.std.proofs.lemmas.Bool.Decides.{eqb_tells}
 use Rattle.std.specs.Prelude.{◌-◌, ◌⊎◌, Bool, true, false, ◌==◌, if◌then◌else◌, nat_le, ℤ, ⊤, slice_get}
 use Rattle.cm_syntax.specs.declared.stmt.Slot.{Slot}
 use Rattle.cm_syntax.specs.declared.stmt.Slot.TheVariants as slot
+use Rattle.cm_syntax.specs.declared.stmt.Extent.{Extent}
+use Rattle.cm_syntax.specs.declared.stmt.Extent.TheVariants as extent
+use Rattle.cm_syntax.specs.Extent.{extent_at}
 use Rattle.cm_syntax.specs.declared.stmt.Function.{Function}
 use Rattle.cm_syntax.specs.declared.stmt.Program.{Program}
 use Rattle.cm_syntax.specs.Fault.{parameter_slots}
@@ -14,13 +17,13 @@ use Rattle.cm_syntax.specs.Evaluation.{function_order, body_order}
 use Rattle.cm_syntax.specs.Cell.{is_held}
 use Rattle.cm_syntax.specs.Stack.{Stack, Destination, Argument, word, slice, push_frame, pop_frame}
 use Rattle.cm_syntax.specs.Rest.{Item, store, deliver, body, fall, join, end, Hand, idle, holds, returned, entering, framing, control}
-use Rattle.cm_syntax.specs.Step.{Move, top, call_bytes_in, push_call, end_call, item_step, hand_step}
+use Rattle.cm_syntax.specs.Step.{top, call_bytes_in, push_call, end_call, item_step, hand_step}
 use Rattle.cm_syntax.proofs.CellLaw.{not_held}
 use Rattle.cm_meaning.specs.Typing.{TypedProgram}
-use Rattle.cm_meaning.specs.TypedState.{IsReference, FitsParameter, FitParameters, Ready, TypedState, row_length}
+use Rattle.cm_meaning.specs.TypedState.{IsReference, FitsParameter, FitsExtent, FitParameters, Ready, TypedState, row_length}
 use Rattle.cm_meaning.specs.Visible.{Among, SeesProgram, SeesBody}
 use Rattle.cm_meaning.proofs.LendingLaw.{Obeys, more}
-use Rattle.cm_meaning.proofs.TypedFramesLaw.{IsPlain, slot_left}
+use Rattle.cm_meaning.proofs.TypedFramesLaw.{IsPlain, slot_left, cons_empty}
 use Rattle.cm_meaning.proofs.GuardLaw.{Access, names, Ghost, CoveredBy, Passes, Rest, slots_of, Chain, Going, Frames}
 use Rattle.cm_meaning.proofs.GuardStepLaw.{known_of, known_low, pushed_stand, guards_pushed}
 use Rattle.cm_meaning.proofs.GuardItemLaw.{Agrees, At, Next, Runs, frames_less, ok_item, StoreFits}
@@ -58,15 +61,15 @@ module _ (program : Program) (page : ℕ) (input : List ℤ) (typed : TypedProgr
     passed_before calls [] parameters e t j f c q = c
     passed_before calls (word v ∷ ws) parameters e t j f c q = passed_before calls ws parameters e t j f.1 c q
     passed_before calls (slice r ∷ ws) parameters e t j f (inr c) q = passed_before calls ws parameters e t j f.1 c q
-    passed_before calls (slice r ∷ ws) parameters e t j f (inl c) q = by (slice_get parameters (length ws)) f.0
+    passed_before calls (slice r ∷ ws) parameters e t j f (inl c) q = by (extent_at parameters (length ws)) f.0
       where
         far : IsReference program u calls r → ⊥
         far i = let l = i.live in let d = c.depth in omega (arith, l, d, q)
 
-        by : (z : Option Slot) → FitsParameter program u calls (slice r) z → ⊥
-        by (Some slot.Slice) p = far p
-        by (Some slot.Scalar) p = p
-        by (Some (slot.Array n)) p = p
+        by : (z : Option Extent) → FitsExtent program u calls (slice r) z → ⊥
+        by (Some extent.Reference) p = far p
+        by (Some extent.Word) p = p
+        by (Some (extent.Words n)) p = p
         by None p = p
 
     ok_push : (Away : Access → (n e t j : ℕ) → Type 0) (calls : List ℕ) (account : ℕ) (hand : Hand) (all larger : List Item) (f : ℕ) (ws : List Argument) (k : List Item) (ghosts : List Ghost) (function : Function ℕ) → slice_get program.functions f ≡ Some function
@@ -140,9 +143,6 @@ module _ (program : Program) (page : ℕ) (input : List ℤ) (typed : TypedProgr
             less a b l e = omega (arith, l, e)
 
     -- ---- a step
-
-    cons_empty : (i : Item) (k : List Item) → i ∷ k ≡ [] → ⊥
-    cons_empty i k e = cc e
 
     -- what is at hand doesn't matter, where no call is
     going_idle : (calls : List ℕ) (ghosts : List Ghost) (hand : Hand) → IsPlain hand → (k : List Item) → Going program calls ghosts hand k → Going program calls ghosts idle k

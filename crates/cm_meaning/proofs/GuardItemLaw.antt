@@ -1,5 +1,5 @@
 -- A piece whose calls are guarded does each item as the whole does: what it reads and writes is its own.
-use Rattle.std.proofs.Common.{◌≡◌, ℕ, zero, suc, ◌+◌, ◌<◌, ◌≤◌, List, [], ◌∷◌, ◌++◌, length, Option, None, Some, refl, sym, ap, ◌∙◌, subst, arith, inl, inr}
+use Rattle.std.proofs.Common.{◌≡◌, ℕ, zero, suc, ◌+◌, ◌<◌, ◌≤◌, List, [], ◌∷◌, ◌++◌, length, Option, None, Some, refl, sym, ap, ◌∙◌, subst, arith, inl, inr, option_map}
 use Rattle.std.specs.Prelude.{Bool, true, false, ◌==◌, if◌then◌else◌, ℤ, pos, ⊤, slice_get}
 use Rattle.cm_syntax.specs.declared.expr.Op.{Op}
 use Rattle.cm_syntax.specs.declared.expr.Op.TheVariants as op
@@ -11,6 +11,7 @@ use Rattle.cm_syntax.specs.declared.expr.Call.{Call, Row_of-Arg, end_of-Arg, mor
 use Rattle.cm_syntax.specs.declared.expr.Mark.{Mark}
 use Rattle.cm_syntax.specs.declared.stmt.Slot.{Slot}
 use Rattle.cm_syntax.specs.declared.stmt.Slot.TheVariants as slot
+use Rattle.cm_syntax.specs.Extent.{extent_of}
 use Rattle.cm_syntax.specs.declared.stmt.Item as items
 use Rattle.cm_syntax.specs.declared.stmt.Target.TheVariants as target
 use Rattle.cm_syntax.specs.declared.stmt.Stmt.{Stmt, Row_of-Stmt, end_of-Stmt, more_of-Stmt}
@@ -28,6 +29,7 @@ use Rattle.cm_syntax.specs.Rest.{Purpose, called, spawned, Item, evaluate, right
 use Rattle.cm_syntax.specs.Step.{Move, top, rest_at_join, scalar_slice, when_readable, when_writable, when_value, when_result, when_some, go_on, hold, write_step, leave, is_index, is_split, slice_in, destination_slot, invoke, spawn_call, enter_call, take_value, drop_value, declare_item, do_other, fall_off, running_function, when_slice, give_input, evaluate_step, statement_step, item_step}
 use Rattle.cm_syntax.proofs.CellLaw.{valued}
 use Rattle.cm_syntax.proofs.AccessLaw.{reading, writing, reads_value, writes_on}
+use Rattle.cm_syntax.proofs.Rows.{row_of_call}
 use Rattle.cm_meaning.specs.TypedState.{row_length, reference_length}
 use Rattle.cm_meaning.specs.Visible.{Among, IsOpen, IsVisible, SeesExpression, SeesArguments, SeesOptional, SeesItem, SeesItems, SeesDestination, SeesStatement}
 use Rattle.cm_meaning.proofs.LendingLaw.{Distinct, Obeys, more, kept, round, endless, Calm, calm_more, calm_out}
@@ -104,10 +106,6 @@ row_list (more_of-Arg first rest) = ap (λ o. next (argument_order first) o) (ro
 slices_list : {n : _} (row : Row_of-Arg ℕ n) → slices (items-the_row-Arg ℕ n row) ≡ row_slices row
 slices_list end_of-Arg = refl
 slices_list (more_of-Arg first rest) = ap (λ s. slice_of first ++ s) (slices_list rest)
-
-abbrev row_of_call : Expr ℕ → (n : _) × Row_of-Arg ℕ n
-row_of_call (expression.Call' _ _ row) = (_, row)
-row_of_call _ = (_, end_of-Arg)
 
 row_of : (call : Call ℕ) → items-the_row-Arg ℕ (row_of_call (expression.Call call)).0 (row_of_call (expression.Call call)).1 ≡ call.arguments
 row_of call = items_hidden-the_row-Arg-1 ℕ call.arguments
@@ -303,7 +301,7 @@ module _ (program : Program) (page : ℕ) (input : List ℤ) (f : ℕ) (callers 
             (λ r i. go r (λ e t j o. inr (refer_stands (h.references depth) known x e t j r stand (ap value_in (rows x) ∙ i) (v.named s) o)) (valued (λ z. r.length ≡ reference_length z) r refl (λ p. refl) (u.references depth x) i))
 
         by : (z : Option Slot) → slice_get (slots_of program f) x ≡ z → ((r : Reference) → ((e t j : ℕ) → Covers r e t j → StandsFor depth known x e t j) → r.length ≡ row_length u depth x z → Runs (q r) → Ok (p r))
-            → Runs (slice_in (f ∷ callers) u z x q) → Ok (slice_in (f ∷ callers) h z x p)
+            → Runs (slice_in (f ∷ callers) u (option_map extent_of z) x q) → Ok (slice_in (f ∷ callers) h (option_map extent_of z) x p)
         by None i go n = absurd n
         by (Some slot.Scalar) i go n = go (scalar_slice depth x) (own 1) refl n
         by (Some (slot.Array m)) i go n = go _ (own m) refl n
@@ -490,7 +488,7 @@ module _ (program : Program) (page : ℕ) (input : List ℤ) (f : ℕ) (callers 
         )
 
     ok_declare : (x : ℕ) (kind : Slot) (first : Option (Expr ℕ)) (rest : List (items.Item ℕ)) (k m : List Item) → IsOpen hidden x → SeesItem (slots_of program f) (names known) hidden kind first → SeesItems (slots_of program f) (names known) hidden rest
-        → Obeys (optional_order first) (λ z. (Among z x → ⊥) × Obeys (items_order rest) (R k known hidden) z) lent → Runs (declare_item w u x kind first rest m) → Ok (declare_item c h x kind first rest k)
+        → Obeys (optional_order first) (λ z. (Among z x → ⊥) × Obeys (items_order rest) (R k known hidden) z) lent → Runs (declare_item w u x (extent_of kind) first rest m) → Ok (declare_item c h x (extent_of kind) first rest k)
     ok_declare x slot.Scalar None rest k m p s y o n = ok_write depth x 0 None (pos 0) (declare rest ∷ k) (declare rest ∷ m) (free_own x 0 p o.0) (y, o.1) n
     ok_declare x slot.Scalar (Some e) rest k m p s y o n =
         idles (evaluate e ∷ assign x ∷ declare rest ∷ k) (s, more (expression_order e) (λ z. (Among z x → ⊥) × Obeys (items_order rest) (R k known hidden) z) (R (assign x ∷ declare rest ∷ k) known hidden) lent (λ z i. (p, (i.0, (y, i.1)))) o)

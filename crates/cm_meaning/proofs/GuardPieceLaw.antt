@@ -26,7 +26,7 @@ use Rattle.cm_meaning.proofs.BesideLaw.{beside}
 use Rattle.cm_meaning.proofs.InsideLaw.{within}
 use Rattle.cm_meaning.proofs.SettledLaw.{floor, Moves, Keeps, IsSpawned, good_law}
 use Rattle.cm_meaning.proofs.SafetyLaw.{typed_step}
-use Rattle.cm_meaning.proofs.TypedFramesLaw.{IsPlain, Wider, state, running, frames_of}
+use Rattle.cm_meaning.proofs.TypedFramesLaw.{IsPlain, Wider, state, running, frames_of, cons_empty}
 use Rattle.cm_meaning.proofs.WiderLaw.{low_base}
 use Rattle.cm_meaning.proofs.GuardLaw.{Access, reads, writes, Serves, PassesAt}
 use Rattle.cm_meaning.proofs.GuardStepLaw.{stand_same, passes_less, guards_joined}
@@ -169,9 +169,6 @@ module _ (program : Program) (page : ℕ) (input : List ℤ) (typed : TypedProgr
   put_inside : (a : Around) (call t : Control) (x : Destination) → put a (inside call x t) ≡ inside call x (put a t)
   put_inside alone call t x = refl
   put_inside (called_by y k) call t x = ap (λ r. control call.calls call.account call.hand r) (append_assoc call.rest (deliver x ∷ t.rest) (deliver y ∷ k.rest))
-
-  cons_empty : (i : Item) (k : List Item) → i ∷ k ≡ [] → ⊥
-  cons_empty i k e = cc e
 
   -- the continuation of a typed call is typed
   continues : (calls : List ℕ) (account more_ f : ℕ) (ws : List Argument) (x : Destination) (k : List Item) (u : Stack) → TypedState program true (control calls account (entering f ws) (deliver x ∷ k)) u → TypedState program true (control calls more_ idle k) u

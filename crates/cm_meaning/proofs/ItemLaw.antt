@@ -1,5 +1,5 @@
 -- Each item of a running function leads from a typed state to a typed one, or the run ends by a trap.
-use Rattle.std.proofs.Common.{◌≡◌, ℕ, zero, suc, ◌+◌, ◌<◌, ◌≤◌, List, [], ◌∷◌, length, Option, None, Some, refl, sym, ap, ◌∙◌, subst, arith, inl, inr}
+use Rattle.std.proofs.Common.{◌≡◌, ℕ, zero, suc, ◌+◌, ◌<◌, ◌≤◌, List, [], ◌∷◌, length, Option, None, Some, refl, sym, ap, ◌∙◌, subst, arith, inl, inr, option_map}
 use Rattle.std.proofs.lemmas.Bool.{ltb-true, leb-true}
 use Rattle.std.specs.Prelude.{Bool, true, false, if◌then◌else◌, ℤ, pos, negsuc, slice_get, is_some}
 use Rattle.cm_syntax.specs.declared.expr.Op.{Op}
@@ -11,6 +11,7 @@ use Rattle.cm_syntax.specs.declared.expr.Call.{Row_of-Arg, end_of-Arg, more_of-A
 use Rattle.cm_syntax.specs.declared.expr.Mark.{Mark}
 use Rattle.cm_syntax.specs.declared.stmt.Slot.{Slot}
 use Rattle.cm_syntax.specs.declared.stmt.Slot.TheVariants as slot
+use Rattle.cm_syntax.specs.Extent.{extent_of, extent_at}
 use Rattle.cm_syntax.specs.declared.stmt.Item as items
 use Rattle.cm_syntax.specs.declared.stmt.Target.TheVariants as target
 use Rattle.cm_syntax.specs.declared.stmt.Stmt.{Stmt, Row_of-Stmt, end_of-Stmt, more_of-Stmt}
@@ -22,7 +23,7 @@ use Rattle.cm_syntax.specs.Trap as kind
 use Rattle.cm_syntax.specs.Fault.{parameter_slots}
 use Rattle.cm_syntax.specs.Label.{traps, stuck}
 use Rattle.cm_syntax.specs.Operator.{is_zero, natural, binary_value, divides, unary_value}
-use Rattle.cm_syntax.specs.Cell.{Cell, absent, unset, present, may_write, shared}
+use Rattle.cm_syntax.specs.Cell.{Cell, present, may_write}
 use Rattle.cm_syntax.specs.Stack.{Reference, Stack, Destination, Argument, word, slice, write_word, clear_words, write_reference, write_parts, may_write_all}
 use Rattle.cm_syntax.specs.Rest.{Purpose, called, spawned, Item, evaluate, right, apply, prefix, both, either, truth, element, read, arguments, pass, take_back, discard, deliver, perform, sequence, body, declare, assign, update, locate, store, branch, turn, test, part, tick, show, exit, fall, join, end, Hand, idle, holds, returned, entering, framing, Control, control}
 use Rattle.cm_syntax.specs.Step.{Move, inside, rest_at_join, scalar_slice, when_readable, when_writable, when_value, when_result, when_some, go_on, hold, write_step, leave, is_index, is_split, slice_in, slots_in, destination_slot, invoke, enter_call, take_value, drop_value, deliver_value, declare_item, do_other, fall_off, when_slice, give_input, evaluate_step, statement_step, item_step, step}
@@ -33,7 +34,7 @@ use Rattle.cm_meaning.specs.Typing.{is_arithmetic, IsUpdate, GivesWanted, IsRow,
 use Rattle.cm_meaning.specs.TypedState.{IsPresent, row_words, IsSet, AreSet, AtHand, nothing, value, back, at_hand, HasComeBack, at_join, slots_at, IsReference, FitsParameter, HasNoStore, row_length, reference_length, behind_call, FitsPurpose, FitsDelivery, TypedOther, TypedLoop, FitsCall, FitsPass, Leaving, Inner, Outer, Calling, Ready, TypedState, KeepsTyped}
 use Rattle.cm_meaning.proofs.WeakeningLaw.{IsAmong, among_one_more, among_its_behind, more_statement}
 use Rattle.cm_meaning.proofs.GrowthLaw.{grows_before, sets_move, more_loop, reference_moves, moves, outer_moves}
-use Rattle.cm_meaning.proofs.TypedFramesLaw.{IsPlain, state, running, Frames, Wider, present_held, only_zero, wider_grows, wider_frames, written_wider, cleared_wider, written_there, cleared_there, one_more_set, scalar_set, scalar_present, array_set, reference_grows, reference_sets, reference_frames, left_part, right_part, left_reference, right_reference, slots_last}
+use Rattle.cm_meaning.proofs.TypedFramesLaw.{IsPlain, state, running, Frames, Wider, present_value, present_held, only_zero, wider_grows, wider_frames, written_wider, cleared_wider, written_there, cleared_there, one_more_set, scalar_set, scalar_present, array_set, reference_grows, reference_sets, reference_frames, left_part, right_part, left_reference, right_reference, slots_last}
 use Rattle.cm_meaning.proofs.ArgumentLaw.{gives_any, gives_back, comes_back, dropped_all, value_argument, slice_argument, address_argument, no_more}
 
 -- a word that is updated has a value
@@ -99,10 +100,7 @@ module _ (program : Program) (page : ℕ) (input : List ℤ) (gives : Bool) wher
     -- ---- what a step needs is there
 
     ok_present : {A : Type 0} (y : Cell A) (m : A → Move) → IsPresent y → ((v : A) → y ≡ present v → Ok (m v)) → Ok (when_readable y m)
-    ok_present (present v) m p g = g v refl
-    ok_present absent m p g = absurd p
-    ok_present unset m p g = absurd p
-    ok_present (shared q v) m p g = absurd p
+    ok_present y m p g = let v = present_value y p in subst (λ z. Ok (when_readable z m)) (sym v.1) (g v.0 v.1)
 
     ok_held : {A : Type 0} (y : Cell A) (m : Move) → may_write y ≡ true → Ok m → Ok (when_writable y m)
     ok_held y m e g = subst Ok (sym (writes_on y m e)) g
@@ -156,10 +154,10 @@ module _ (program : Program) (page : ℕ) (input : List ℤ) (gives : Bool) wher
 
     ok_slice : (a : ℕ) (m : Reference → Move) → IsSetRow program.functions function.slots set a
         → ((r : Reference) → IsReference program h (f ∷ calls) r → r.depth ≤ length calls → r.length ≡ row_length h (length calls) a (slice_get function.slots a) → Ok (m r)) → Ok (when_slice program page input c h a m)
-    ok_slice a m t g = subst (λ z. Ok (slice_in (f ∷ calls) h (slice_get (slots_in z) a) a m)) (sym is) (by (slice_get function.slots a) refl (are a t.0) t.1 g)
+    ok_slice a m t g = subst (λ z. Ok (slice_in (f ∷ calls) h (extent_at (slots_in z) a) a m)) (sym is) (by (slice_get function.slots a) refl (are a t.0) t.1 g)
       where
         by : (z : Option Slot) → slice_get function.slots a ≡ z → IsSet h (length calls) a z → IsRow z
-            → ((r : Reference) → IsReference program h (f ∷ calls) r → r.depth ≤ length calls → r.length ≡ row_length h (length calls) a z → Ok (m r)) → Ok (slice_in (f ∷ calls) h z a m)
+            → ((r : Reference) → IsReference program h (f ∷ calls) r → r.depth ≤ length calls → r.length ≡ row_length h (length calls) a z → Ok (m r)) → Ok (slice_in (f ∷ calls) h (option_map extent_of z) a m)
         by None e s row g = absurd row
         by (Some slot.Scalar) e s row g = absurd row
         by (Some (slot.Array n)) e s row g = g _ (own_reference a n (subst (λ z. n ≤ row_words z) (sym e) (omega arith)) s) (omega arith) refl
@@ -350,7 +348,7 @@ module _ (program : Program) (page : ℕ) (input : List ℤ) (gives : Bool) wher
         )
 
     ok_declare : (x : ℕ) (kind : Slot) (first : Option (Expr ℕ)) (more : List (items.Item ℕ)) (k : List Item) → slice_get function.slots x ≡ Some kind → TypedItem program.functions function.slots set kind first
-        → TypedItems program.functions function.slots (x ∷ set) more → HasNoStore k → Fits h (set_by_items (x ∷ set) more) nothing k → Ok (declare_item c h x kind first more k)
+        → TypedItems program.functions function.slots (x ∷ set) more → HasNoStore k → Fits h (set_by_items (x ∷ set) more) nothing k → Ok (declare_item c h x (extent_of kind) first more k)
     ok_declare x slot.Scalar None more k e t l n i = ok_write (length calls) x 0 None (pos 0) (declare more ∷ k) (frames.words (length calls) x 0 own) (λ w. sets x w (declare more ∷ k) e (l, n, i))
     ok_declare x slot.Scalar (Some z) more k e t l n i = idles (evaluate z ∷ assign x ∷ declare more ∷ k) (t, (refl, e, (l, n, i)))
     ok_declare x (slot.Array m) first more k e t l n i = let held = all_held x m in rw held (clears x m (declare more ∷ k) e (l, n, i))

@@ -9,8 +9,11 @@ use Rattle.std.proofs.lemmas.Bool.{cases_lt, cases_eq, cases_Bool, eqb-true, eq-
 use Rattle.std.proofs.lemmas.Bool.Decides.{eqb_tells}
 use Rattle.cm_syntax.specs.declared.stmt.Slot.{Slot}
 use Rattle.cm_syntax.specs.declared.stmt.Slot.TheVariants as slot
+use Rattle.cm_syntax.specs.declared.stmt.Extent.{Extent}
+use Rattle.cm_syntax.specs.declared.stmt.Extent.TheVariants as extent
+use Rattle.cm_syntax.specs.Extent.{extent_of, extent_at}
 use Rattle.cm_syntax.specs.declared.stmt.Program.{Program}
-use Rattle.cm_syntax.specs.Frame.{slot_words, slots_words}
+use Rattle.cm_syntax.specs.Frame.{slot_words, slots_words, extent_words}
 use Rattle.cm_syntax.specs.Stack as stack
 use Rattle.cm_syntax.specs.Cell.{Cell, unset, present}
 use Rattle.cm_syntax.specs.Stack.{words_with, word_parameter, slice_parameter, push_frame}
@@ -22,9 +25,10 @@ use Rattle.cm_meaning.specs.declared.reference.Argument as argument
 use Rattle.cm_meaning.specs.declared.reference.Argument.TheVariants as arguments
 use Rattle.cm_meaning.specs.declared.frames.Frame as frame
 use Rattle.cm_meaning.specs.declared.frames.Frames.{Frames}
-use Rattle.cm_meaning.specs.Layout.{reference_of, argument_of, words_in, address, frames_words, offsets_from, layout_of, frames_of, place_words, program_in, calls_in, room_in, FitFrames, AreKnown, AreOfKinds, IsLaidOut, TakesArguments, Shows, ArePlaces, ArePut, AreCleared}
+use Rattle.cm_meaning.specs.Layout.{reference_of, argument_of, words_in, address, frames_words, offsets_from, layout_of, frames_of, place_words, taken_words, program_in, calls_in, room_in, FitFrames, AreKnown, AreOfKinds, AreOfExtents, IsLaidOut, TakesArguments, Shows, ArePlaces, ArePut, AreCleared}
 use Rattle.cm_meaning.proofs.BesideLaw.{and_true}
 use Rattle.cm_meaning.proofs.FramesLaw.{get_set, get_set_other, get_push, get_front, row_place, frame_holds, at_slot, offset_read, offset_count, slot_within, slots_apart, IsPlace, one_address, address_within, base_below, base_top, slots_below, slots_top}
+use Rattle.cm_meaning.specs.Range.{max_stack_words}
 
 -- ---- words are cleared
 
@@ -44,17 +48,6 @@ pub cleared_none : (start : ℕ) (words : List ℤ) → AreCleared start 0 words
 cleared_none start words = record { same_length = refl; before = λ a l. refl; behind = λ a l. refl; cleared = λ i l. absurd (omega arith) }
 
 -- ---- arguments are put
-
-pub put_none : (offsets : List ℕ) (base : ℕ) (ws : List argument.Argument) (words : List ℤ) (references : List declared.Reference)
-    → ArePut offsets base 0 ws words words references references
-put_none offsets base ws words references = record {
-  words_length = refl;
-  references_length = refl;
-  words_kept = λ a l. refl;
-  references_kept = λ a l. refl;
-  words_put = λ x v l e. absurd (omega arith);
-  references_put = λ x r l e. absurd (omega arith);
-}
 
 -- what was put stays where a later argument is put
 put_other : {A : Type 0} (offsets : List ℕ) (base count limit : ℕ) → ArePlaces offsets base count limit → (xs : List A) (v w : A) (x n : ℕ) → x < n → n < count
@@ -121,8 +114,16 @@ map_set f [] i v = refl
 map_set f (x ∷ xs) zero v = refl
 map_set f (x ∷ xs) (suc i) v = ap (λ rest. f x ∷ rest) (map_set f xs i v)
 
-slice_there : (slots : List Slot) (x : ℕ) → slice_get slots x ≡ Some slot.Slice → 0 < place_words (slice_get slots x)
-slice_there slots x kind = omega (arith, ap place_words kind)
+slice_there : (slots : List Slot) (x : ℕ) → extent_at slots x ≡ Some extent.Reference → 0 < place_words (slice_get slots x)
+slice_there slots x kind = omega (arith, ap taken_words kind)
+
+-- what has an extent is there
+slot_there : (slots : List Slot) (x : ℕ) (e : Extent) → extent_at slots x ≡ Some e → (k : Slot) × (slice_get slots x ≡ Some k)
+slot_there slots x e is = by (slice_get slots x) refl is
+  where
+    by : (o : Option Slot) → slice_get slots x ≡ o → option_map extent_of o ≡ Some e → (k : Slot) × (slice_get slots x ≡ Some k)
+    by None at is = absurd (cc is)
+    by (Some k) at is = (k, at)
 
 module _ (program : Program) (calls : List ℕ) where
   -- a word of a scalar or an array
@@ -135,7 +136,7 @@ module _ (program : Program) (calls : List ℕ) where
 
   -- the references that are present are kept
   abbrev pub ShowReferences : ((depth x : ℕ) → Cell stack.Reference) → List declared.Reference → Type 0
-  ShowReferences cells references = (d x : ℕ) (r : stack.Reference) → d < length calls → slice_get (slots_at program calls d) x ≡ Some slot.Slice
+  ShowReferences cells references = (d x : ℕ) (r : stack.Reference) → d < length calls → extent_at (slots_at program calls d) x ≡ Some extent.Reference
       → cells d x ≡ present r → slice_get (map reference_of references) (address program calls d x 0) ≡ Some r
 
   pub word_place : (d x i : ℕ) → IsWord d x i → IsPlace program calls d x i
@@ -163,7 +164,7 @@ module _ (program : Program) (calls : List ℕ) where
   ]
 
   pub cleared : (cells : (depth x index : ℕ) → Cell ℤ) (old words : List ℤ) (d x n : ℕ) → d < length calls
-      → slice_get (slots_at program calls d) x ≡ Some (slot.Array n) → AreCleared (address program calls d x 0) n old words
+      → extent_at (slots_at program calls d) x ≡ Some (extent.Words n) → AreCleared (address program calls d x 0) n old words
       → ShowWords cells old → ShowWords (λ e y j. if e == d && (y == x && nat_lt j n) then present (pos 0) else cells e y j) words
   cleared cells old words d x n low kind clear shown = λ e y j w at is. elim (cases_Bool (e == d && (y == x && nat_lt j n))) [
     | inl same ↦
@@ -181,7 +182,7 @@ module _ (program : Program) (calls : List ℕ) where
             | inl near ↦
                 let k = address program calls e y j - address program calls d x 0 in
                 let few : k < n = omega arith in
-                let there : k < place_words (slice_get (slots_at program calls d) x) = subst (λ o. k < place_words o) (sym kind) few in
+                let there : k < place_words (slice_get (slots_at program calls d) x) = subst (λ o. k < taken_words o) (sym kind) few in
                 let same : address program calls e y j ≡ address program calls d x k = omega arith in
                 let q = one_address program calls e y j d x k (word_place e y j at) (low, there) same in
                 let a : (e == d) ≡ true = eq-eqb e d q.0 in let b : (y == x) ≡ true = eq-eqb y x q.1 in let c : nat_lt j n ≡ true = lt-ltb j n (omega (arith, q.2)) in
@@ -192,7 +193,7 @@ module _ (program : Program) (calls : List ℕ) where
   ]
 
   pub referred : (cells : (depth x : ℕ) → Cell stack.Reference) (references : List declared.Reference) (d x : ℕ) (r : declared.Reference) → d < length calls
-      → slice_get (slots_at program calls d) x ≡ Some slot.Slice → frames_words program calls ≤ length references
+      → extent_at (slots_at program calls d) x ≡ Some extent.Reference → frames_words program calls ≤ length references
       → ShowReferences cells references
       → ShowReferences (λ e y. if e == d && y == x then present (reference_of r) else cells e y) (set references (address program calls d x 0) r)
   referred cells references d x r low kind room shown =
@@ -292,19 +293,25 @@ slice_kept ws s r h = by given.0 given.1 given.2
     by (arguments.Word w) e is = absurd (cc is)
     by (arguments.Slice q) e is = let one : reference_of q ≡ r = cc is in (q, e, one)
 
+-- an argument of a kind takes words
+first_kind : (w : argument.Argument) (e : Extent) (ws : List argument.Argument) (more : List Extent) → AreOfExtents (w ∷ ws) (e ∷ more) → (1 ≤ extent_words e) × AreOfExtents ws more
+first_kind (arguments.Word v) extent.Word ws more kinds = (omega arith, kinds)
+first_kind (arguments.Slice r) extent.Reference ws more kinds = (omega arith, kinds)
+first_kind (arguments.Word v) extent.Reference ws more kinds = absurd kinds
+first_kind (arguments.Word v) (extent.Words n) ws more kinds = absurd kinds
+first_kind (arguments.Slice r) extent.Word ws more kinds = absurd kinds
+first_kind (arguments.Slice r) (extent.Words n) ws more kinds = absurd kinds
+
 -- the slots of arguments are parameters, and none is without words
 kinds_at : (ws : List argument.Argument) (slots : List Slot) → AreOfKinds ws slots → (x : ℕ) → x < length ws → (k : Slot) × (slice_get slots x ≡ Some k) × (1 ≤ slot_words k)
 kinds_at [] slots kinds x low = absurd (omega arith)
-kinds_at (arguments.Word v ∷ ws) [] kinds x low = absurd kinds
-kinds_at (arguments.Slice r ∷ ws) [] kinds x low = absurd kinds
-kinds_at (arguments.Word v ∷ ws) (slot.Scalar ∷ slots) kinds zero low = (slot.Scalar, refl, omega arith)
-kinds_at (arguments.Word v ∷ ws) (slot.Scalar ∷ slots) kinds (suc x) low = kinds_at ws slots kinds x (omega arith)
-kinds_at (arguments.Word v ∷ ws) (slot.Array n ∷ slots) kinds x low = absurd kinds
-kinds_at (arguments.Word v ∷ ws) (slot.Slice ∷ slots) kinds x low = absurd kinds
-kinds_at (arguments.Slice r ∷ ws) (slot.Scalar ∷ slots) kinds x low = absurd kinds
-kinds_at (arguments.Slice r ∷ ws) (slot.Array n ∷ slots) kinds x low = absurd kinds
-kinds_at (arguments.Slice r ∷ ws) (slot.Slice ∷ slots) kinds zero low = (slot.Slice, refl, omega arith)
-kinds_at (arguments.Slice r ∷ ws) (slot.Slice ∷ slots) kinds (suc x) low = kinds_at ws slots kinds x (omega arith)
+kinds_at (w ∷ ws) [] kinds x low = absurd (none w kinds)
+  where
+    none : (w : argument.Argument) → AreOfExtents (w ∷ ws) [] → ⊥
+    none (arguments.Word v) kinds = kinds
+    none (arguments.Slice r) kinds = kinds
+kinds_at (w ∷ ws) (k ∷ slots) kinds zero low = (k, refl, (first_kind w (extent_of k) ws (map extent_of slots) kinds).0)
+kinds_at (w ∷ ws) (k ∷ slots) kinds (suc x) low = kinds_at ws slots (first_kind w (extent_of k) ws (map extent_of slots) kinds).1 x (omega arith)
 
 -- ---- a call begins
 
@@ -395,16 +402,17 @@ module _ (program : Program) (calls : List ℕ) (f : ℕ) (ws : List argument.Ar
           let given : slice_parameter (reverse (map argument_of ws)) x ≡ present r =
           subst (λ b. (if b then slice_parameter (reverse (map argument_of ws)) x else h.references d x) ≡ present r) top.0 is in
           let kept = slice_kept ws x r given in
-          let there : slice_get (slots_at program (f ∷ calls) (length calls)) x ≡ Some slot.Slice =
-          ap (λ z. slice_get (slots_at program (f ∷ calls) z) x) (sym top.1) ∙ kind in
-          ap (λ a. slice_get (map reference_of references) a) (same_address program (f ∷ calls) (length calls) x 0 d x 0 top.1 refl refl ∙ new_address x slot.Slice there)
+          let there : extent_at (slots_at program (f ∷ calls) (length calls)) x ≡ Some extent.Reference =
+          ap (λ z. extent_at (slots_at program (f ∷ calls) z) x) (sym top.1) ∙ kind in
+          let slot = slot_there (slots_at program (f ∷ calls) (length calls)) x extent.Reference there in
+          ap (λ a. slice_get (map reference_of references) a) (same_address program (f ∷ calls) (length calls) x 0 d x 0 top.1 refl refl ∙ new_address x slot.0 slot.1)
           ∙ slice_get-map reference_of references (frames_words program calls + slice_index (offsets_from 0 call.function.slots) x)
           ∙ ap (option_map reference_of) (put.references_put x kept.0 (slice_get_within ws x _ kept.1) kept.1) ∙ ap Some kept.2
       | inr other ↦
           let low : d < length calls = omega (arith, at, other.1) in
           let p : h.references d x ≡ present r =
           subst (λ b. (if b then slice_parameter (reverse (map argument_of ws)) x else h.references d x) ≡ present r) other.0 is in
-          let slice : slice_get (slots_at program calls d) x ≡ Some slot.Slice = ap (λ z. slice_get z x) (sym (slots_below program f calls d low)) ∙ kind in
+          let slice : extent_at (slots_at program calls d) x ≡ Some extent.Reference = ap (λ z. extent_at z x) (sym (slots_below program f calls d low)) ∙ kind in
           ap (λ a. slice_get (map reference_of references) a) (old_address d x 0 low)
           ∙ slice_get-map reference_of references (address program calls d x 0)
           ∙ ap (option_map reference_of) (put.references_kept (address program calls d x 0) (address_within program calls d x 0 (low, slice_there (slots_at program calls d) x slice)))
@@ -429,7 +437,7 @@ module _ (frames : Frames) (calls : List ℕ) (same : calls_in frames ≡ calls)
 
   pub laid_by : FitFrames (program_in frames) → frames.layouts ≡ map layout_of (program_in frames).functions → AreKnown (program_in frames) calls
       → frames.frames.items ≡ frames_of (program_in frames) calls → frames.used ≡ frames_words (program_in frames) calls
-      → frames_words (program_in frames) calls ≤ room_in frames → length frames.references.items ≡ room_in frames → room_in frames ≤ 262144 → IsLaidOut frames
+      → frames_words (program_in frames) calls ≤ room_in frames → length frames.references.items ≡ room_in frames → room_in frames ≤ max_stack_words → IsLaidOut frames
   laid_by fits layouts known placed used within paired few = record {
     fits = fits;
     layouts = layouts;

@@ -1,6 +1,8 @@
 -- The lemmas that the proofs share.
 pub mod WeightLaw
 pub mod SumLaw
+pub mod Walk
+pub mod WalkLaw
 pub mod BesideLaw
 pub mod InsideLaw
 pub mod RowLaw

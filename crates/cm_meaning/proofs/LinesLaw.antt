@@ -1,5 +1,5 @@
 -- The lines of an output, number by number and hole by hole.
-use Rattle.std.proofs.Common.{◌≡◌, ℕ, ◌+◌, ◌-◌, ◌<◌, ◌≤◌, min, List, [], ◌∷◌, ◌++◌, length, take, drop, map, get_or, drop-cons, append_assoc, refl, sym, ap, ◌∙◌, add-one, arith}
+use Rattle.std.proofs.Common.{◌≡◌, ℕ, ◌+◌, ◌-◌, ◌<◌, ◌≤◌, min, List, [], ◌∷◌, ◌++◌, length, take, drop, map, append_assoc, refl, sym, ap, ◌∙◌, arith}
 use Rattle.std.specs.Prelude.{ℤ, codes}
 use Rattle.std.specs.Fmt.{signed_decimal}
 use Rattle.std.proofs.lemmas.List.{take_min, drop_min, take_rest, length-take, append-nil}
@@ -72,7 +72,3 @@ turn text one two whole at count before rest first more holes counted before_is 
 -- what is left is no longer than before
 pub no_longer : (count most : ℕ) (rest : List ℤ) → length rest ≤ most → length (take (length rest - count) (drop count rest)) ≤ most
 no_longer count most rest le = omega (arith, length-take (length rest - count) (drop count rest))
-
--- the item at i of a list that a loop goes through
-pub next : {X : Type 0} (xs : List X) (i : ℕ) (x : X) → i < length xs → x ≡ get_or xs i x → drop i xs ≡ x ∷ drop (i + 1) xs
-next xs i x lt is = drop-cons xs i x lt ∙ rw (← is, add-one)

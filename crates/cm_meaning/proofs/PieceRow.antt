@@ -10,8 +10,8 @@ use Rattle.cm_syntax.specs.Rest.{Control}
 use Rattle.cm_syntax.specs.Step.{Move, step, depth}
 use Rattle.cm_meaning.proofs.BesideLaw.{and_true}
 use Rattle.cm_meaning.specs.End.{End, Done, Trapped, Spent}
-use Rattle.cm_meaning.specs.Meaning.{Ask, Note, Piece, Fork}
-use Rattle.cm_meaning.specs.Piece.{counted, Own, returns, fails, runs_out, Sum, going, trapped, spent, Capped, fits, passes, Decides, all_done, own_trap, own_spent, child_trap, child_spent, told, awaited, printed, child, piece, log_sum, Counts, none, past, skipped, AllTold, Fallen, by_trap, by_spent, later, Given, Collects, before, other, Stops, by_return, by_tick, by_child, silently, ticking, showing, joining, parting, hearing, this, stops, goes}
+use Rattle.cm_meaning.specs.Meaning.{Ask, Note, Piece, Fork, Reached}
+use Rattle.cm_meaning.specs.Piece.{counted, Own, returns, fails, runs_out, Sum, going, trapped, spent, Capped, fits, passes, Decides, all_done, own_trap, own_spent, child_trap, child_spent, told, awaited, printed, child, piece, log_sum, Counts, none, past, skipped, AllTold, Fallen, by_trap, by_spent, later, Given, Collects, before, other, Stops, by_return, by_tick, by_child, silently, ticking, showing, joining, parting, hearing, this, stops, goes, then}
 
 abbrev pub Log : Type 0
 Log = List Note
@@ -226,3 +226,49 @@ module _ (program : Program) (page : ℕ) (input : List ℤ) where
 
   pub allowed : (s start : ℕ) (c : Control) (h : Stack) (e : End) (f : Found) → follow s start 0 c h [] ≡ f → end_found f ≡ Some e → (w : Stack) × Forks (piece_of start 0 c h []) e w
   allowed s start c h e f l k = allowed_from s start 0 c h [] e f l tt refl k
+
+-- ---- a piece that hears of no child
+
+module _ (program : Program) (page : ℕ) (input : List ℤ) where
+  abbrev piece_at : (start own : ℕ) → Control → Stack → Log → Piece
+  piece_at = piece Control Stack Destination
+
+  abbrev Reaches : Piece → Piece → Type 0
+  Reaches = Reached program page input
+
+  -- where a piece is after so many steps, at most up to a tick that doesn't fit, a join, an end, or where it is stuck
+  abbrev ahead_on : ((start own : ℕ) → Control → Stack → Log → Piece) → (start own : ℕ) → Control → Stack → Log → Move → Piece
+  ahead_on go start own c h log (silent t g) = go start own t g log
+  ahead_on go start own c h log (ticks t g) = if nat_lt (own + joined_count log) start then go start (suc own) t g log else piece_at start own c h log
+  ahead_on go start own c h log (prints v t g) = go start own t g (printed v ∷ log)
+  ahead_on go start own c h log (spawns call lent x t g) = go start own t g (child (depth c) own x false (record { start = start - (own + joined_count log); call = call; lent = lent }) awaited ∷ log)
+  ahead_on go start own c h log (syncs t) = piece_at start own c h log
+  ahead_on go start own c h log (traps k) = piece_at start own c h log
+  ahead_on go start own c h log (ends v) = piece_at start own c h log
+  ahead_on go start own c h log stuck = piece_at start own c h log
+
+  abbrev pub ahead : (steps : ℕ) → (start own : ℕ) → Control → Stack → Log → Piece
+  ahead zero start own c h log = piece_at start own c h log
+  ahead (suc s) start own c h log = ahead_on (ahead s) start own c h log (step program page input c h)
+
+  -- the rules lead there, by one more step
+  module _ (first : Piece) (go : (start own : ℕ) → Control → Stack → Log → Piece) (is : (start own : ℕ) (c : Control) (h : Stack) (log : Log) → is_fine log ≡ true → Reaches first (piece_at start own c h log) → Reaches first (go start own c h log)) where
+    by_tick_ : (start own : ℕ) (c t : Control) (h g : Stack) (log : Log) → is_fine log ≡ true → Reaches first (piece_at start own c h log) → step program page input c h ≡ ticks t g
+        → (b : Bool) → nat_lt (own + joined_count log) start ≡ b → Reaches first (if b then go start (suc own) t g log else piece_at start own c h log)
+    by_tick_ start own c t h g log j r e true l = is start (suc own) t g log j ((then) r (ticking e (counts_joined log j) (ltb-true (own + joined_count log) start l)))
+    by_tick_ start own c t h g log j r e false l = r
+
+    by_step : (start own : ℕ) (c : Control) (h : Stack) (log : Log) → is_fine log ≡ true → Reaches first (piece_at start own c h log) → (y : Move) → step program page input c h ≡ y → Reaches first (ahead_on go start own c h log y)
+    by_step start own c h log j r (silent t g) e = is start own t g log j ((then) r (silently e))
+    by_step start own c h log j r (ticks t g) e = by_tick_ start own c t h g log j r e (nat_lt (own + joined_count log) start) refl
+    by_step start own c h log j r (prints v t g) e = is start own t g (printed v ∷ log) j ((then) r (showing e))
+    by_step start own c h log j r (spawns call lent x t g) e = is start own t g _ j ((then) r (parting e (counts_joined log j)))
+    by_step start own c h log j r (syncs t) e = r
+    by_step start own c h log j r (traps k) e = r
+    by_step start own c h log j r (ends v) e = r
+    by_step start own c h log j r stuck e = r
+
+  -- the rules lead there
+  pub reaches : (first : Piece) (s start own : ℕ) (c : Control) (h : Stack) (log : Log) → is_fine log ≡ true → Reaches first (piece_at start own c h log) → Reaches first (ahead s start own c h log)
+  reaches first zero start own c h log j r = r
+  reaches first (suc s) start own c h log j r = by_step first (ahead s) (reaches first s) start own c h log j r (step program page input c h) refl

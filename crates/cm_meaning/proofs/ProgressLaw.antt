@@ -20,13 +20,14 @@ use Rattle.cm_meaning.specs.declared.work.Outcome.{Outcome}
 use Rattle.cm_meaning.specs.declared.work.Outcome.TheVariants as outcomes
 use Rattle.cm_meaning.specs.Ended.{trap_of}
 use Rattle.cm_meaning.specs.Elision.{serial, here, quiet, tick, show}
-use Rattle.cm_meaning.specs.Output.{Entry, Number, Open, Filled, numbers_of}
+use Rattle.cm_meaning.specs.Output.{Entry, Number, Open, Filled, numbers_of, open_count}
 use Rattle.cm_meaning.specs.End.{End, Done, Trapped, Spent}
 use Rattle.cm_meaning.specs.Meaning.{Limits, Comes, SerialEnd, serial_step, first_control}
 use Rattle.cm_meaning.specs.Measure.{frame_bytes_in, frame_bytes, cilk_frames}
 use Rattle.cm_meaning.specs.Law.{LowersWeight}
 use Rattle.cm_meaning.specs.Weight.{weight}
-use Rattle.cm_meaning.specs.Range.{IsPage, HasRanges}
+use Rattle.cm_maps.specs.Pages.{IsPage}
+use Rattle.cm_meaning.specs.Range.{HasRanges}
 use Rattle.cm_meaning.specs.Typing.{TypedProgram}
 use Rattle.cm_meaning.specs.TypedState.{TypedState, KeepsTyped}
 use Rattle.cm_meaning.specs.Layout.{argument_of, words_in, frames_words, program_in, calls_in, room_in, FitFrames, IsNew, Shows}
@@ -89,6 +90,13 @@ numbers_push [] v = refl
 numbers_push (Number w ∷ more) v = ap (λ z. w ∷ z) (numbers_push more v)
 numbers_push (Open ∷ more) v = numbers_push more v
 numbers_push (Filled numbers ∷ more) v = ap (λ z. numbers ++ z) (numbers_push more v) ∙ sym (append_assoc numbers (numbers_of more) (v ∷ []))
+
+-- a number that is put last opens no hole
+pub open_push : (entries : List Entry) (v : ℤ) → open_count (entries ++ Number v ∷ []) ≡ open_count entries
+open_push [] v = refl
+open_push (Number w ∷ more) v = open_push more v
+open_push (Open ∷ more) v = ap suc (open_push more v)
+open_push (Filled numbers ∷ more) v = open_push more v
 
 -- the bytes of the frames are four times their words
 pub bytes_words : (program : Program) (calls : List ℕ) → frame_bytes program calls ≡ 4 * frames_words program calls

@@ -16,7 +16,7 @@ use Rattle.cm_meaning.specs.Meaning.{serial_step, Comes, GetsStuck}
 use Rattle.cm_meaning.specs.Typing.{numbers_below, TypedFunction, TypedProgram}
 use Rattle.cm_meaning.specs.TypedState.{AreSet, AtHand, back, at_hand, at_join, Leaving, Outer, Running, Calling, Ready, TypedState, KeepsTyped}
 use Rattle.cm_meaning.proofs.GrowthLaw.{outer_moves}
-use Rattle.cm_meaning.proofs.TypedFramesLaw.{IsPlain, state, frames_of, running, Frames, popped_grows, pushed_grows, popped_frames, pushed_frames, pushed_sets, no_less}
+use Rattle.cm_meaning.proofs.TypedFramesLaw.{IsPlain, state, frames_of, running, Frames, popped_grows, pushed_grows, popped_frames, pushed_frames, pushed_sets, no_less, cons_empty}
 use Rattle.cm_meaning.proofs.ItemLaw.{elided, ok_item}
 
 module _ (program : Program) (page : ℕ) (input : List ℤ) (gives : Bool) where
@@ -76,9 +76,6 @@ module _ (program : Program) (page : ℕ) (input : List ℤ) (gives : Bool) wher
       gives_at : AtHand → Bool
       gives_at (back b) = b
       gives_at _ = gives
-
-  cons_empty : (x : Item) (k : List Item) → (x ∷ k) ≡ [] → ⊥
-  cons_empty x k e = cc e
 
   -- what is at hand, and then the first item
   ok_hand : (calls : List ℕ) (account : ℕ) (hand : Hand) (rest : List Item) (h : Stack) → TypedProgram program → Frames program calls h → Ready program h gives calls hand rest

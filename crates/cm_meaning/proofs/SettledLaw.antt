@@ -1,36 +1,23 @@
 -- Each step of a settled state leads to settled states, and frames come and go in order.
-use Rattle.std.proofs.Common.{◌≡◌, ◌≢◌, ℕ, zero, suc, ◌+◌, ◌<◌, ◌≤◌, List, [], ◌∷◌, length, Option, None, Some, refl, sym, ap, ◌∙◌, subst, arith, inl, inr}
-use Rattle.std.proofs.lemmas.Bool.{ltb-true}
+use Rattle.std.proofs.Common.{◌≡◌, ◌≢◌, ℕ, zero, suc, ◌+◌, ◌<◌, ◌≤◌, List, [], ◌∷◌, ◌++◌, length, Option, None, Some, refl, sym, ap, ◌∙◌, subst, arith, inl, inr}
+use Rattle.std.proofs.lemmas.Bool.{eq-eqb, ltb-true}
 use Rattle.std.proofs.lemmas.Bool.Decides.{eqb_tells}
-use Rattle.std.specs.Prelude.{◌-◌, Bool, true, false, ◌==◌, if◌then◌else◌, nat_le, nat_lt, ℤ, pos, ⊤, slice_get}
-use Rattle.cm_syntax.specs.declared.expr.Op.{Op}
-use Rattle.cm_syntax.specs.declared.expr.Op.TheVariants as op
-use Rattle.cm_syntax.specs.declared.expr.Expr.{Expr}
-use Rattle.cm_syntax.specs.declared.expr.Expr.TheVariants as expression
-use Rattle.cm_syntax.specs.declared.expr.Arg.TheVariants as arg
-use Rattle.cm_syntax.specs.declared.expr.Call.{end_of-Arg, more_of-Arg}
-use Rattle.cm_syntax.specs.declared.stmt.Slot.{Slot}
-use Rattle.cm_syntax.specs.declared.stmt.Slot.TheVariants as slot
-use Rattle.cm_syntax.specs.declared.stmt.Item as items
-use Rattle.cm_syntax.specs.declared.stmt.Target.TheVariants as target
-use Rattle.cm_syntax.specs.declared.stmt.Stmt.{Stmt, end_of-Stmt, more_of-Stmt}
-use Rattle.cm_syntax.specs.declared.stmt.Stmt.TheVariants as statement
+use Rattle.std.specs.Prelude.{◌-◌, Bool, true, false, ◌==◌, if◌then◌else◌, nat_le, nat_lt, ℤ, ⊤, slice_get}
 use Rattle.cm_syntax.specs.declared.stmt.Function.{Function}
 use Rattle.cm_syntax.specs.declared.stmt.Program.{Program}
-use Rattle.cm_syntax.specs.Shape.{Joined, Prefixed, Element, InputAt, IfAlone, IfElse, WhileLoop, ForLoop}
 use Rattle.cm_syntax.specs.Trap as kind
 use Rattle.cm_syntax.specs.Label.{silent, ticks, prints, spawns, syncs, traps, ends, stuck}
-use Rattle.cm_syntax.specs.Operator.{is_zero, natural, binary_value, divides, unary_value}
-use Rattle.cm_syntax.specs.Cell.{Cell, absent, unset, present, may_write, shared}
-use Rattle.cm_syntax.specs.Stack.{Reference, Stack, Destination, Argument, write_word, clear_words, write_parts, may_write_all, lent_stack, kept_stack, push_frame, pop_frame, StackSum, IsUnder}
-use Rattle.cm_syntax.specs.Rest.{Purpose, called, spawned, Item, evaluate, right, apply, prefix, both, either, truth, element, read, arguments, pass, take_back, discard, deliver, perform, sequence, body, declare, assign, update, locate, store, branch, turn, test, part, tick, show, exit, fall, join, end, Hand, idle, holds, returned, entering, framing, Control, control}
-use Rattle.cm_syntax.specs.Step.{Move, top, depth, inside, rest_at_join, hand_value, when_readable, when_writable, when_value, when_result, when_some, write_step, leave, is_index, is_split, slice_in, call_bytes_in, destination_slot, invoke, spawn_call, enter_call, take_value, drop_value, deliver_value, declare_item, do_other, fall_off, slot_at, running_function, when_slice, push_call, end_call, give_input, evaluate_step, statement_step, item_step, hand_step, step}
-use Rattle.cm_syntax.proofs.AccessLaw.{reading, writing}
+use Rattle.cm_syntax.specs.Cell.{Cell, absent, may_write}
+use Rattle.cm_syntax.specs.Stack.{Reference, Stack, Destination, Argument, write_word, clear_words, write_parts, lent_stack, kept_stack, push_frame, pop_frame, StackSum, IsUnder}
+use Rattle.cm_syntax.specs.Rest.{Item, deliver, body, fall, join, end, Hand, idle, holds, returned, entering, framing, Control, control}
+use Rattle.cm_syntax.specs.Step.{Move, top, depth, inside, rest_at_join, hand_value, leave, call_bytes_in, spawn_call, push_call, end_call, item_step, hand_step, step}
 use Rattle.cm_meaning.specs.Elision.{serial}
 use Rattle.cm_meaning.specs.Activation.{IsInner, IsOuter, FitsHand, end_count, base, IsSettled}
 use Rattle.cm_meaning.specs.Law.{HoldsDestination}
 use Rattle.cm_meaning.proofs.SumLaw.{part_sum, lent_under, kept_under}
-use Rattle.cm_meaning.proofs.BesideLaw.{and_true, none_below}
+use Rattle.cm_meaning.proofs.Walk.{IsPlainRow, Change, nothing, word, zeros, parts, changed, MayChange, MayTake, IsFree, IsFreeReference, MoveRules}
+use Rattle.cm_meaning.proofs.TypedFramesLaw.{IsPlain}
+use Rattle.cm_meaning.proofs.WalkLaw.{none_below, move_law}
 
 -- the number of frames without the one whose end is the next item
 abbrev pub floor_of : ℕ → List Item → ℕ
@@ -88,30 +75,20 @@ some_act (join ∷ _ ∷ k) i = absurd i
 some_act (end ∷ k) i = absurd i
 some_act (_ ∷ k) i = some_act k i
 
-same_number : (n : ℕ) → (n == n) ≡ true
-same_number n = elim (eqb_tells n n) [ inl one ↦ one.0 | inr ne ↦ absurd (ne.1 refl) ]
-
 -- a destination that is held is lent
 lent_held : (h : Stack) (d s : ℕ) (ws : List Argument) → may_write (h.words d s 0) ≡ true → may_write ((lent_stack h (Some (record { depth = d; slot = s })) ws).words d s 0) ≡ true
 lent_held h d s ws q = ap may_write lent ∙ q
   where
     lent : (lent_stack h (Some (record { depth = d; slot = s })) ws).words d s 0 ≡ h.words d s 0
-    lent = let x : (d == d) ≡ true = same_number d in let y : (s == s) ≡ true = same_number s in rw (x, y) refl
+    lent = let x = eq-eqb d d refl in let y = eq-eqb s s refl in rw (x, y) refl
 
 pub depth_below : (calls : List ℕ) → 1 ≤ length calls → suc (top calls) ≡ length calls
 depth_below [] l = omega (arith, l)
 depth_below (f ∷ calls) l = refl
 
+-- what may be written is there
 is_there : {A : Type 0} (c : Cell A) → may_write c ≡ true → c ≡ absent → ⊥
-is_there absent h e = cc h
-is_there unset h e = cc e
-is_there (present v) h e = cc e
-is_there (shared p v) h e = cc h
-
-abbrev IsPlain : Hand → Type 0
-IsPlain (entering f vs) = ⊥
-IsPlain (framing f vs) = ⊥
-IsPlain _ = Unit {0}
+is_there c h e = cc (sym h ∙ ap may_write e)
 
 leaves : (z : Hand) (k : List Item) → IsPlain z → IsOuter k → FitsHand z (end ∷ k)
 leaves (entering f ws) k p o = absurd p
@@ -172,37 +149,6 @@ module _ (program : Program) (page : ℕ) (input : List ℤ) where
       going : (z : Hand) (r : List Item) → IsInner r → end_count r ≡ end_count k → To (end_count k) (control c.calls c.account z r) h
       going z r i e = to_ c.account z r h i e low
 
-      fits_present : {A : Type 0} (y : Cell A) (f : A → Move) → ((v : A) → Ok (f v)) → Ok (when_readable y f)
-      fits_present y f e = reading Ok tt y f (λ v q. e v)
-
-      fits_held : {A : Type 0} (y : Cell A) (f : Move) → (may_write y ≡ true → Ok f) → Ok (when_writable y f)
-      fits_held y f e = writing Ok tt y f e
-
-      fits_value : (z : Hand) (f : ℤ → Move) → ((v : ℤ) → Ok (f v)) → Ok (when_value z f)
-      fits_value (holds v) f e = e v
-      fits_value _ f e = tt
-
-      fits_if : (t : Bool) (f g : Move) → Ok f → Ok g → Ok (if t then f else g)
-      fits_if true f g a b = a
-      fits_if false f g a b = b
-
-      fits_slice : (s : ℕ) (f : Reference → Move) → ((r : Reference) → Ok (f r)) → Ok (when_slice program page input c h s f)
-      fits_slice s f e = by (slot_at program page input c.calls s)
-        where
-          by : (y : Option Slot) → Ok (slice_in c.calls h y s f)
-          by (Some slot.Scalar) = e _
-          by (Some (slot.Array w)) = e _
-          by (Some slot.Slice) = fits_present (h.references (top c.calls) s) f e
-          by None = tt
-
-      fits_result : (p : Op) (v : Option ℤ) (f : ℤ → Move) → ((w : ℤ) → Ok (f w)) → Ok (when_result p v f)
-      fits_result p (Some v) f e = e v
-      fits_result p None f e = fits_if (divides p) _ _ tt tt
-
-      fits_some : (v : Option ℤ) (f : ℤ → Move) → ((w : ℤ) → Ok (f w)) → Ok (when_some v f)
-      fits_some (Some v) f e = e v
-      fits_some None f e = tt
-
       put_under : (d s i : ℕ) (v : ℤ) → may_write (h.words d s i) ≡ true → IsUnder (length c.calls) (write_word h d s i v)
       put_under d s i v there = record {
         words = λ e t j l. elim (eqb_tells e d) [
@@ -211,10 +157,6 @@ module _ (program : Program) (page : ℕ) (input : List ℤ) where
         ];
         references = low.references;
       }
-
-      fits_write : (d s i : ℕ) (p : Option Op) (v : ℤ) (r : List Item) → IsInner r → end_count r ≡ end_count k → Ok (write_step c h d s i p v r)
-      fits_write d s i None v r n e = fits_held (h.words d s i) _ (λ q. to_ c.account idle r (write_word h d s i v) n e (put_under d s i v q))
-      fits_write d s i (Some p) v r n e = fits_held (h.words d s i) _ (λ q. fits_present (h.words d s i) _ (λ old. fits_result p (binary_value p old v) _ (λ w. to_ c.account idle r (write_word h d s i w) n e (put_under d s i w q))))
 
       fits_spawn : (f : ℕ) (ws : List Argument) (x : Destination) → HoldsDestination x (length c.calls) (lent_stack h x ws) → Ok (spawn_call c h f ws x k)
       fits_spawn f ws x held = let one = some_act k in_ in let l : 1 ≤ length c.calls = omega (arith, one, many) in let d = depth_below c.calls l in record {
@@ -232,49 +174,13 @@ module _ (program : Program) (page : ℕ) (input : List ℤ) where
       running : suc (top c.calls) ≡ length c.calls
       running = let one = some_act k in_ in depth_below c.calls (omega (arith, one, many))
 
-      fits_call : (u : Purpose) (f : ℕ) (ws : List Argument) → Ok (enter_call c h u f ws k)
-      fits_call called f ws = going (entering f ws) k in_ refl
-      fits_call (spawned None) f ws = fits_spawn f ws None tt
-      fits_call (spawned (Some x)) f ws = fits_held (h.words (top c.calls) x 0) _ (λ q. fits_spawn f ws _ ((let r = running in omega (arith, r)), lent_held h (top c.calls) x ws q))
-
-      fits_input : (v : Option ℤ) → Ok (give_input program page input c h v k)
-      fits_input None = tt
-      fits_input (Some v) = going (holds v) k in_ refl
-
-      fits_invoke : (u : Purpose) (e : Expr ℕ) (r : List Item) → IsInner r → end_count r ≡ end_count k → Ok (invoke c h u e r)
-      fits_invoke u (expression.Call' f _ row) r n e = going idle _ n e
-      fits_invoke u _ r n e = tt
-
-      fits_take : (z : Hand) → Ok (take_value c h z k)
-      fits_take (returned (Some v)) = going (holds v) k in_ refl
-      fits_take (returned None) = tt
-      fits_take _ = tt
-
-      fits_drop : (z : Hand) → Ok (drop_value c h z k)
-      fits_drop (returned v) = going idle k in_ refl
-      fits_drop _ = tt
-
-      fits_deliver : (z : Hand) (x : Destination) → Ok (deliver_value c h z x k)
-      fits_deliver (returned v) None = going idle k in_ refl
-      fits_deliver (returned None) (Some x) = going idle k in_ refl
-      fits_deliver (returned (Some v)) (Some x) = fits_write x.depth x.slot 0 None v k in_ refl
-      fits_deliver _ _ = tt
-
-      fits_other : (s : Option (Stmt ℕ)) → Ok (do_other c h s k)
-      fits_other None = going idle k in_ refl
-      fits_other (Some s) = going idle _ in_ refl
-
-      fits_fall : (f : Option (Function ℕ)) → Ok (fall_off c h f k)
-      fits_fall None = tt
-      fits_fall (Some f) = fits_if f.gives _ _ (going (holds (pos 0)) k in_ refl) (going idle k in_ refl)
-
       fits_leave : (r : List Item) → IsInner r → end_count r ≡ end_count k → Ok (leave c h (rest_at_join r))
       fits_leave [] n e = absurd n
       fits_leave (join ∷ r) n e = going c.hand (join ∷ r) n e
       fits_leave (end ∷ r) n e = absurd n
       fits_leave (_ ∷ r) n e = fits_leave r n e
 
-      zeroed_under : (d s n : ℕ) → may_write_all (h.words d s) n ≡ true → IsUnder (length c.calls) (clear_words h d s n)
+      zeroed_under : (d s n : ℕ) → ((i : ℕ) → i < n → IsFree h d s i) → IsUnder (length c.calls) (clear_words h d s n)
       zeroed_under d s n all = record {
         words = λ e t j l. elim (eqb_tells e d) [
           | inr ne ↦ let x : (e == d) ≡ false = ne.0 in rw x (low.words e t j l)
@@ -283,7 +189,7 @@ module _ (program : Program) (page : ℕ) (input : List ℤ) where
         references = low.references;
       }
         where
-          by : (n : ℕ) → may_write_all (h.words d s) n ≡ true → (e t j : ℕ) → length c.calls ≤ e → ((e == d) ≡ true) × (e ≡ d) → (clear_words h d s n).words e t j ≡ absent
+          by : (n : ℕ) → ((i : ℕ) → i < n → IsFree h d s i) → (e t j : ℕ) → length c.calls ≤ e → ((e == d) ≡ true) × (e ≡ d) → (clear_words h d s n).words e t j ≡ absent
           by zero all e t j l one = elim (eqb_tells t s) [
             | inr ne ↦ let x : (e == d) ≡ true = one.0 in let y : (t == s) ≡ false = ne.0 in rw (x, y) (low.words e t j l)
             | inl two ↦ let x : (e == d) ≡ true = one.0 in let y : (t == s) ≡ true = two.0 in let z : nat_lt j 0 ≡ false = not_below j in rw (x, y, z) (low.words e t j l)
@@ -295,17 +201,7 @@ module _ (program : Program) (page : ℕ) (input : List ℤ) where
                   case : (q : Bool) → nat_lt j 0 ≡ q → nat_lt j 0 ≡ false
                   case true g = absurd (none_below j (ltb-true j 0 g))
                   case false g = g
-          by (suc n) all e t j l one = absurd (is_there (h.words d s n) (and_true (may_write (h.words d s n)) (may_write_all (h.words d s) n) all).0 (low.words d s n (omega (arith, l, one.1))))
-
-      fits_declare : (x : ℕ) (y : Slot) (e : Option (Expr ℕ)) (more : List (items.Item ℕ)) → Ok (declare_item c h x y e more k)
-      fits_declare x slot.Scalar None more = fits_write (top c.calls) x 0 None (pos 0) (declare more ∷ k) in_ refl
-      fits_declare x slot.Scalar (Some e) more = going idle _ in_ refl
-      fits_declare x (slot.Array n) e more = by (may_write_all (h.words (top c.calls) x) n) refl
-        where
-          by : (q : Bool) → may_write_all (h.words (top c.calls) x) n ≡ q → Ok (declare_item c h x (slot.Array n) e more k)
-          by false l = rw l tt
-          by true l = rw l (to_ c.account idle (declare more ∷ k) (clear_words h (top c.calls) x n) in_ refl (zeroed_under (top c.calls) x n l))
-      fits_declare x slot.Slice e more = tt
+          by (suc n) all e t j l one = absurd (is_there (h.words d s n) (all n (omega arith)) (low.words d s n (omega (arith, l, one.1))))
 
       parted_under : (l r : ℕ) (x : Reference) (p : ℕ) → may_write (h.references (top c.calls) l) ≡ true → IsUnder (length c.calls) (write_parts h (top c.calls) l r x p)
       parted_under l r x p there = record {
@@ -316,83 +212,50 @@ module _ (program : Program) (page : ℕ) (input : List ℤ) where
         ];
       }
 
-      fits_evaluate : (e : Expr ℕ) → Ok (evaluate_step program page input c h e k)
-      fits_evaluate (expression.Number n) = going (holds n) k in_ refl
-      fits_evaluate (expression.Scalar x) = fits_present (h.words (top c.calls) x.name 0) _ (λ v. going (holds v) k in_ refl)
-      fits_evaluate (Element p e) = going idle _ in_ refl
-      fits_evaluate (expression.Len p) = fits_slice p.name _ (λ r. going (holds (pos r.length)) k in_ refl)
-      fits_evaluate (InputAt e) = going idle _ in_ refl
-      fits_evaluate expression.Inputs = going (holds _) k in_ refl
-      fits_evaluate (Prefixed p e) = going idle _ in_ refl
-      fits_evaluate (Joined op.Both l r) = going idle _ in_ refl
-      fits_evaluate (Joined op.Either l r) = going idle _ in_ refl
-      fits_evaluate (Joined p l r) = going idle _ in_ refl
-      fits_evaluate (expression.Call' f _ row) = going idle _ in_ refl
+      inner_row : (new : List Item) → IsPlainRow new → IsInner (new ++ k)
+      inner_row [] q = in_
+      inner_row (join ∷ new) q = absurd q
+      inner_row (end ∷ new) q = absurd q
+      inner_row (_ ∷ new) q = inner_row new q
 
-      fits_statement : (s : Stmt ℕ) → Ok (statement_step program page input c h s k)
-      fits_statement statement.Empty = going idle k in_ refl
-      fits_statement (statement.Declare row) = going idle _ in_ refl
-      fits_statement (statement.Assign (target.Scalar x) None e) = going idle _ in_ refl
-      fits_statement (statement.Assign (target.Scalar x) (Some p) e) = going idle _ in_ refl
-      fits_statement (statement.Assign (target.Index x place) p e) = going idle _ in_ refl
-      fits_statement (statement.Call call) = fits_invoke called (expression.Call call) (discard ∷ k) in_ refl
-      fits_statement (statement.Spawn at x call) = fits_invoke (spawned (destination_slot x)) (expression.Call call) k in_ refl
-      fits_statement (statement.Sync at) = record {
-        good = λ g u. record { shape = shape_of idle k (outer_of k in_); enough = many; below = u };
+      count_row : (new : List Item) → IsPlainRow new → end_count (new ++ k) ≡ end_count k
+      count_row [] q = refl
+      count_row (join ∷ new) q = absurd q
+      count_row (end ∷ new) q = absurd q
+      count_row (_ ∷ new) q = count_row new q
+
+      changed_under : (w : Change) → MayChange (IsFree h) (IsFreeReference h) (top c.calls) w → IsUnder (length c.calls) (changed (top c.calls) w h)
+      changed_under nothing m = low
+      changed_under (word d s i v) m = put_under d s i v m
+      changed_under (zeros s n) m = zeroed_under (top c.calls) s n m
+      changed_under (parts l r x n) m = parted_under l r x n m.0
+
+      held : (ws : List Argument) (x : Destination) → MayTake (IsFree h) (top c.calls) x → HoldsDestination x (length c.calls) (lent_stack h x ws)
+      held ws None m = tt
+      held ws (Some x) m = ((let r = running in let e = m.0 in omega (arith, r, e)), lent_held h x.depth x.slot ws m.1)
+
+      syncing : (y : Hand) → Ok (syncs (control c.calls c.account y k))
+      syncing y = record {
+        good = λ g u. record { shape = shape_of y k (outer_of k in_); enough = many; below = u };
         level = let l = floor_is (length c.calls) k (outer_of k in_) in omega (arith, l);
         even = refl;
       }
-      fits_statement (IfAlone t s) = going idle _ in_ refl
-      fits_statement (IfElse t s p) = going idle _ in_ refl
-      fits_statement (WhileLoop t s) = going idle _ in_ refl
-      fits_statement (ForLoop first t s p) = going idle _ in_ refl
-      fits_statement (statement.Split' whole place l r _ row close) = going idle _ in_ refl
-      fits_statement (statement.Return at None) = going idle _ in_ refl
-      fits_statement (statement.Return at (Some e)) = going idle _ in_ refl
-      fits_statement (statement.Print e) = going idle _ in_ refl
-      fits_statement (statement.Block' _ row) = going idle _ in_ refl
+
+      rules : MoveRules Ok c h k
+      rules = record {
+        none = tt;
+        error = λ t. tt;
+        goes = λ w y new m q. to_ c.account y (new ++ k) (changed (top c.calls) w h) (inner_row new q) (count_row new q) (changed_under w m);
+        called = λ f ws. going (entering f ws) k in_ refl;
+        spawns = λ f ws x m. fits_spawn f ws x (held ws x m);
+        ticks = λ y. going y k in_ refl;
+        prints = λ v. going idle k in_ refl;
+        syncs = syncing;
+        leaves = fits_leave k in_ refl;
+      }
 
     -- the first item is one of the running_function frame and neither its join nor its end
     fits_item : (plain : IsPlain c.hand) (i : Item) (k : List Item) → IsInner (i ∷ k) → end_count (i ∷ k) ≤ length c.calls → Fits (end_count (i ∷ k)) (item_step program page input c h i k)
-    fits_item plain (evaluate e) k n m = fits_evaluate k n m e
-    fits_item plain (right p r) k n m = fits_value k n m c.hand _ (λ v. going k n m idle _ n refl)
-    fits_item plain (apply p l) k n m = fits_value k n m c.hand _ (λ v. fits_result k n m p (binary_value p l v) _ (λ w. going k n m (holds w) k n refl))
-    fits_item plain (prefix p) k n m = fits_value k n m c.hand _ (λ v. fits_some k n m (unary_value p v) _ (λ w. going k n m (holds w) k n refl))
-    fits_item plain (both r) k n m = fits_value k n m c.hand _ (λ v. fits_if k n m (is_zero v) _ _ (going k n m (holds v) (truth ∷ k) n refl) (going k n m idle _ n refl))
-    fits_item plain (either r) k n m = fits_value k n m c.hand _ (λ v. fits_if k n m (is_zero v) _ _ (going k n m idle _ n refl) (going k n m (holds v) (truth ∷ k) n refl))
-    fits_item plain truth k n m = fits_value k n m c.hand _ (λ v. going k n m (holds _) k n refl)
-    fits_item plain (element s) k n m = fits_value k n m c.hand _ (λ v. fits_slice k n m s _ (λ r. fits_if k n m (is_index v r.length) _ _ (fits_present k n m (h.words r.depth r.slot (r.start + natural v)) _ (λ w. going k n m (holds w) k n refl)) tt))
-    fits_item plain read k n m = fits_value k n m c.hand _ (λ v. fits_if k n m (is_index v (length input)) _ _ (fits_input k n m (slice_get input (natural v))) tt)
-    fits_item plain (arguments u f ws end_of-Arg) k n m = fits_call k n m u f ws
-    fits_item plain (arguments u f ws (more_of-Arg (arg.Value e) more)) k n m = going k n m idle _ n refl
-    fits_item plain (arguments u f ws (more_of-Arg (arg.Slice x) more)) k n m = fits_slice k n m x.name _ (λ r. going k n m idle _ n refl)
-    fits_item plain (arguments u f ws (more_of-Arg (arg.Address x) more)) k n m = going k n m idle _ n refl
-    fits_item plain (pass u f ws more) k n m = fits_value k n m c.hand _ (λ v. going k n m idle _ n refl)
-    fits_item plain take_back k n m = fits_take k n m c.hand
-    fits_item plain discard k n m = fits_drop k n m c.hand
-    fits_item plain (deliver x) k n m = fits_deliver k n m c.hand x
-    fits_item plain (perform s) k n m = fits_statement k n m s
-    fits_item plain (sequence end_of-Stmt) k n m = going k n m idle k n refl
-    fits_item plain (sequence (more_of-Stmt s l)) k n m = going k n m idle _ n refl
-    fits_item plain (body []) k n m = going k n m idle k n refl
-    fits_item plain (body (s ∷ l)) k n m = going k n m idle _ n refl
-    fits_item plain (declare []) k n m = going k n m idle k n refl
-    fits_item plain (declare (x ∷ more)) k n m = fits_declare k n m x.name.name x.slot x.first more
-    fits_item plain (assign x) k n m = fits_value k n m c.hand _ (λ v. fits_write k n m (top c.calls) x 0 None v k n refl)
-    fits_item plain (update x p) k n m = fits_value k n m c.hand _ (λ v. fits_write k n m (top c.calls) x 0 (Some p) v k n refl)
-    fits_item plain (locate s p e) k n m = fits_value k n m c.hand _ (λ v. fits_slice k n m s _ (λ r. fits_if k n m (is_index v r.length) _ _ (going k n m idle _ n refl) tt))
-    fits_item plain (store s i p) k n m = fits_value k n m c.hand _ (λ v. fits_slice k n m s _ (λ r. fits_write k n m r.depth r.slot (r.start + i) p v k n refl))
-    fits_item plain (branch s p) k n m = fits_value k n m c.hand _ (λ v. fits_if k n m (is_zero v) _ _ (fits_other k n m p) (going k n m idle _ n refl))
-    fits_item plain (turn (Some t) s p) k n m = going k n m idle _ n refl
-    fits_item plain (turn None s p) k n m = going k n m idle _ n refl
-    fits_item plain (test t s p) k n m = fits_value k n m c.hand _ (λ v. fits_if k n m (is_zero v) _ _ (going k n m idle k n refl) (going k n m idle _ n refl))
-    fits_item plain (part s l r row) k n m = fits_value k n m c.hand _ (λ v. fits_slice k n m s _ (λ x. fits_if k n m (is_split v x.length) _ _
-        (fits_held k n m (h.references (top c.calls) l) _ (λ q. fits_held k n m (h.references (top c.calls) r) _ (λ q_.
-        to_ k n m c.account idle (sequence row ∷ k) (write_parts h (top c.calls) l r x (natural v)) n refl (parted_under k n m l r x (natural v) q)))) tt))
-    fits_item plain tick k n m = going k n m c.hand k n refl
-    fits_item plain show k n m = fits_value k n m c.hand _ (λ v. going k n m idle k n refl)
-    fits_item plain exit k n m = fits_leave k n m k n refl
-    fits_item plain fall k n m = fits_fall k n m (running_function program page input c.calls)
     fits_item plain join [] n m = absurd n
     fits_item plain join (end ∷ k) n m = record {
       good = λ g u. record { shape = leaves c.hand k plain n; enough = m; below = u };
@@ -401,6 +264,7 @@ module _ (program : Program) (page : ℕ) (input : List ℤ) where
     }
     fits_item plain join (_ ∷ k) n m = absurd n
     fits_item plain end k n m = absurd n
+    fits_item plain i k n m = move_law program page input (Fits (end_count k)) c h k (rules k n m) i tt
 
   abbrev Keeps_ : (Control → Stack → Type 0) → Move → Type 0
   Keeps_ = Keeps

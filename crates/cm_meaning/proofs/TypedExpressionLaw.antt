@@ -19,16 +19,14 @@ use Rattle.cm_syntax.specs.declared.stmt.Function.{Function}
 use Rattle.cm_syntax.specs.Shape.{Joined, Prefixed, Element, InputAt, Binary-Joined, Unary-Prefixed, Index-Element, Input-InputAt}
 use Rattle.cm_syntax.specs.Text.{is_same}
 use Rattle.cm_syntax.specs.Resolution.{Variable, Role, is_fit, lookup, hide, ArgumentForm, value_form, slice_form, Use, mention, call_use, mention_of, variable_form, argument_form, argument_forms, expression_uses, arguments_uses, argument_uses, optional_uses, call_uses, target_uses, variable_number, lookup_function, function_number, resolve_mark, resolve_function_mark, resolve_bare, resolve_expression, resolve_arguments, resolve_argument, resolve_optional, resolve_call, resolve_target}
-use Rattle.cm_syntax.specs.Fault.{Variant, fault_where, is_misfit, has_misfit, parameter_slots, call_faults, use_faults}
+use Rattle.cm_syntax.specs.Fault.{Variant, is_misfit, has_misfit, parameter_slots, call_faults, use_faults}
+use Rattle.cm_syntax.proofs.Rows.{row_of_call}
+use Rattle.cm_syntax.proofs.naming.NameLaw.{Each}
+use Rattle.cm_syntax.proofs.naming.SoundLaw.{nothing_first, nothing_second, no_fault}
 use Rattle.cm_meaning.specs.Typing.{IsRow, IsParameter, GivesWanted, parameters_in, IsSetScalar, IsSetRow, TypedExpression, TypedArguments, TypedOptional, TypedInvocation, TypedItem, TypedTarget}
 use Rattle.cm_meaning.proofs.FormedLaw.{FormedExpression, FormedArguments, FormedArgument, FormedOptional, FormedItem, FormedTarget}
 
 -- ---- lists
-
--- each element has the property
-abbrev pub Each : {A : Type 0} → (A → Type 0) → List A → Type 0
-Each P [] = ⊤
-Each P (x ∷ xs) = P x × Each P xs
 
 -- what holds of two lists, one behind the other
 pub record Parts {A : Type 0} (P : A → Type 0) (xs ys : List A) : Type 0 where
@@ -40,18 +38,6 @@ Each-parts P [] ys h = record { left = tt; right = h }
 Each-parts P (x ∷ xs) ys h =
     let more = Each-parts P xs ys h.1 in
     record { left = (h.0, more.left); right = more.right }
-
-pub nothing_first : {A : Type 0} (a b : List A) → a ++ b ≡ [] → a ≡ []
-nothing_first [] b e = refl
-nothing_first (x ∷ a) b e = cc
-
-pub nothing_second : {A : Type 0} (a b : List A) → a ++ b ≡ [] → b ≡ []
-nothing_second [] b e = e
-nothing_second (x ∷ a) b e = cc
-
-pub no_fault : (is_faulty : Bool) (at : ℕ) (v : Variant) → fault_where is_faulty at v ≡ [] → is_faulty ≡ false
-no_fault true at v e = cc
-no_fault false at v e = refl
 
 pub neither_first : (a b : Bool) → (a || b) ≡ false → a ≡ false
 neither_first true b e = e
@@ -191,11 +177,6 @@ module _ (here : Setting) where
   row_typed n set (parameter ∷ parameters) end_of-Arg h = absurd h
   row_typed n set [] (more_of-Arg first more) h = absurd h
   row_typed n set (parameter ∷ parameters) (more_of-Arg first more) h = one_more set parameter parameters first more h.0 (row_typed _ set parameters more h.1)
-
-  -- the arguments of a call, as the row that it holds
-  abbrev row_of_call : Expr ℕ → (n : _) × Row_of-Arg ℕ n
-  row_of_call (expression.Call' _ _ row) = (_, row)
-  row_of_call _ = (_, end_of-Arg)
 
   -- a call as the code makes it
   typed_invocation : (set : List ℕ) (wanted : Bool) (call : Call ℕ) → GivesWanted wanted (slice_get numbered call.function.name) →

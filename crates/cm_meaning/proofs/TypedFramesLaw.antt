@@ -5,13 +5,16 @@ use Rattle.std.proofs.lemmas.Bool.Decides.{eqb_tells}
 use Rattle.std.specs.Prelude.{◌⊎◌, Bool, true, false, ◌==◌, ◌&&◌, if◌then◌else◌, nat_lt, ◌-◌, ℤ, pos, Contains, slice_get}
 use Rattle.cm_syntax.specs.declared.stmt.Slot.{Slot}
 use Rattle.cm_syntax.specs.declared.stmt.Slot.TheVariants as slot
+use Rattle.cm_syntax.specs.declared.stmt.Extent.{Extent}
+use Rattle.cm_syntax.specs.declared.stmt.Extent.TheVariants as extent
+use Rattle.cm_syntax.specs.Extent.{extent_at}
 use Rattle.cm_syntax.specs.declared.stmt.Program.{Program}
 use Rattle.cm_syntax.specs.Cell.{Cell, absent, unset, present, may_write, shared}
 use Rattle.cm_syntax.specs.Stack.{Reference, Stack, Argument, word, slice, write_word, clear_words, write_reference, word_parameter, slice_parameter, push_frame, pop_frame, IsUnder}
 use Rattle.cm_syntax.specs.Rest.{Item, Hand, idle, holds, returned, entering, framing, end, Control, control}
 use Rattle.cm_syntax.specs.Step.{slots_in}
 use Rattle.cm_meaning.specs.Typing.{numbers_below}
-use Rattle.cm_meaning.specs.TypedState.{IsPresent, row_words, IsSet, AreSet, at_hand, slots_at, IsReference, FitsParameter, FitParameters, Outer, Ready, TypedState}
+use Rattle.cm_meaning.specs.TypedState.{IsPresent, row_words, IsSet, AreSet, at_hand, slots_at, IsReference, FitParameters, Outer, Ready, TypedState, IsThere, FitsExtent}
 use Rattle.cm_meaning.proofs.WeakeningLaw.{contains_cases}
 use Rattle.cm_meaning.proofs.GrowthLaw.{KeepsWords, Grows, set_moves, reference_moves}
 
@@ -27,21 +30,22 @@ pub record Wider (n : ℕ) (h g : Stack) : Type 0 where
   pub words : (d s i : ℕ) → (g.words d s i ≡ h.words d s i) ⊎ ((d < n) × IsPresent (g.words d s i))
   pub references : (d s : ℕ) → h.references d s ≡ g.references d s
 
+-- the value that is there
+pub present_value : {A : Type 0} (c : Cell A) → IsPresent c → (v : A) × (c ≡ present v)
+present_value absent p = absurd p
+present_value unset p = absurd p
+present_value (present v) p = (v, refl)
+present_value (shared q v) p = absurd p
+
 pub present_held : {A : Type 0} (c : Cell A) → IsPresent c → may_write c ≡ true
-present_held absent p = absurd p
-present_held unset p = absurd p
-present_held (present v) p = refl
-present_held (shared q v) p = absurd p
+present_held c p = ap may_write (present_value c p).1
 
 present_if : {A : Type 0} (q : Bool) (c : Cell A) (v : A) → IsPresent c → IsPresent (if q then present v else c)
 present_if true c v p = tt
 present_if false c v p = p
 
 absent_free : {A : Type 0} (c : Cell A) → c ≡ absent → IsPresent c → ⊥
-absent_free absent e p = p
-absent_free unset e p = p
-absent_free (present v) e p = cc e
-absent_free (shared q v) e p = p
+absent_free c e p = subst IsPresent e p
 
 is_present : {A : Type 0} (c : Cell A) (v : A) → c ≡ present v → IsPresent c
 is_present c v e = subst IsPresent (sym e) tt
@@ -155,7 +159,7 @@ reference_grows h d s r = record {
 -- the slices of the frame are set as before, and one more is
 pub reference_sets : (h : Stack) (depth x : ℕ) (r : Reference) (slots : List Slot) (set : List ℕ) → slice_get slots x ≡ Some slot.Slice → AreSet h depth slots set → AreSet (write_reference h depth x r) depth slots (x ∷ set)
 reference_sets h depth x r slots set e are = one_more_set (write_reference h depth x r) depth slots set x (slice_set (write_reference h depth x r) depth x (slice_get slots x) e (reference_there h depth x r))
-    (λ y c. set_moves h (write_reference h depth x r) depth y (slice_get slots y) (λ i p. p) (present_if (depth == depth && y == x) (h.references depth y) r) (are y c))
+    (λ y c. set_moves h (write_reference h depth x r) depth y (extent_at slots y) (λ i p. p) (present_if (depth == depth && y == x) (h.references depth y) r) (are y c))
 
 -- what is at a place where a reference was written, or not
 written_reference : (program : Program) (calls : List ℕ) (h : Stack) (d s : ℕ) (r : Reference) → Frames program calls h → r.depth ≤ d → IsReference program h calls r
@@ -289,34 +293,34 @@ popped_frames program f calls h w = record {
 
 -- ---- parameters
 
--- a slot of this kind has what the arguments hand over
-abbrev Handed : List Argument → (x : ℕ) → Option Slot → Type 0
-Handed ws x (Some slot.Scalar) = IsPresent (word_parameter ws x)
-Handed ws x (Some slot.Slice) = IsPresent (slice_parameter ws x)
+-- what has this extent has what the arguments hand over
+abbrev Handed : List Argument → (x : ℕ) → Option Extent → Type 0
+Handed ws x (Some extent.Word) = IsPresent (word_parameter ws x)
+Handed ws x (Some extent.Reference) = IsPresent (slice_parameter ws x)
 Handed ws x _ = ⊥
 
-handed_later : (w : Argument) (ws : List Argument) (x : ℕ) (z : Option Slot) → Handed ws x z → Handed (w ∷ ws) x z
-handed_later (word v) ws x (Some slot.Scalar) p = present_if (x == length ws) (word_parameter ws x) v p
-handed_later (slice r) ws x (Some slot.Scalar) p = p
-handed_later (word v) ws x (Some slot.Slice) p = p
-handed_later (slice r) ws x (Some slot.Slice) p = present_if (x == length ws) (slice_parameter ws x) r p
-handed_later w ws x (Some (slot.Array n)) p = absurd p
+handed_later : (w : Argument) (ws : List Argument) (x : ℕ) (z : Option Extent) → Handed ws x z → Handed (w ∷ ws) x z
+handed_later (word v) ws x (Some extent.Word) p = present_if (x == length ws) (word_parameter ws x) v p
+handed_later (slice r) ws x (Some extent.Word) p = p
+handed_later (word v) ws x (Some extent.Reference) p = p
+handed_later (slice r) ws x (Some extent.Reference) p = present_if (x == length ws) (slice_parameter ws x) r p
+handed_later w ws x (Some (extent.Words n)) p = absurd p
 handed_later w ws x None p = absurd p
 
 module _ (program : Program) (h : Stack) (calls : List ℕ) where
-  handed_first : (w : Argument) (ws : List Argument) (z : Option Slot) → FitsParameter program h calls w z → Handed (w ∷ ws) (length ws) z
-  handed_first (word v) ws (Some slot.Scalar) f = let x = same_number (length ws) in rw x tt
-  handed_first (slice r) ws (Some slot.Slice) f = let x = same_number (length ws) in rw x tt
+  handed_first : (w : Argument) (ws : List Argument) (z : Option Extent) → FitsExtent program h calls w z → Handed (w ∷ ws) (length ws) z
+  handed_first (word v) ws (Some extent.Word) f = let x = same_number (length ws) in rw x tt
+  handed_first (slice r) ws (Some extent.Reference) f = let x = same_number (length ws) in rw x tt
   handed_first (word v) ws (Some _) f = absurd f
   handed_first (slice v) ws (Some _) f = absurd f
   handed_first (word v) ws None f = absurd f
   handed_first (slice v) ws None f = absurd f
 
-  handed : (ws : List Argument) (parameters : List Slot) (x : ℕ) → x < length ws → FitParameters program h calls ws parameters → Handed ws x (slice_get parameters x)
+  handed : (ws : List Argument) (parameters : List Slot) (x : ℕ) → x < length ws → FitParameters program h calls ws parameters → Handed ws x (extent_at parameters x)
   handed [] parameters x l f = absurd (no_less x l)
   handed (w ∷ ws) parameters x l f = elim (eqb_tells x (length ws)) [
-    | inl one ↦ subst (λ y. Handed (w ∷ ws) y (slice_get parameters y)) (sym one.1) (handed_first w ws (slice_get parameters (length ws)) f.0)
-    | inr ne ↦ handed_later w ws x (slice_get parameters x) (handed ws parameters x (omega (arith, l, ne.1)) f.1)
+    | inl one ↦ subst (λ y. Handed (w ∷ ws) y (extent_at parameters y)) (sym one.1) (handed_first w ws (extent_at parameters (length ws)) f.0)
+    | inr ne ↦ handed_later w ws x (extent_at parameters x) (handed ws parameters x (omega (arith, l, ne.1)) f.1)
   ]
 
   -- a slice that is handed over is one of the arguments
@@ -328,17 +332,17 @@ module _ (program : Program) (h : Stack) (calls : List ℕ) where
   handed_reference (word v ∷ ws) parameters x r f e = handed_reference ws parameters x r f.1 e
   handed_reference (slice q ∷ ws) parameters x r f e = by (x == length ws) (handed_reference ws parameters x r f.1) e
     where
-      fits : (z : Option Slot) → FitsParameter program h calls (slice q) z → IsReference program h calls q
-      fits (Some slot.Slice) p = p
-      fits (Some slot.Scalar) p = absurd p
-      fits (Some (slot.Array n)) p = absurd p
+      fits : (z : Option Extent) → FitsExtent program h calls (slice q) z → IsReference program h calls q
+      fits (Some extent.Reference) p = p
+      fits (Some extent.Word) p = absurd p
+      fits (Some (extent.Words n)) p = absurd p
       fits None p = absurd p
 
       same : present q ≡ present r → q ≡ r
       same e = cc e
 
       by : (b : Bool) → (slice_parameter ws x ≡ present r → IsReference program h calls r) → (if b then present q else slice_parameter ws x) ≡ present r → IsReference program h calls r
-      by true later e = subst (IsReference program h calls) (same e) (fits (slice_get parameters (length ws)) f.0)
+      by true later e = subst (IsReference program h calls) (same e) (fits (extent_at parameters (length ws)) f.0)
       by false later e = later e
 
 held_if : {A : Type 0} (q : Bool) (c : Cell A) (v : A) → may_write c ≡ true → may_write (if q then present v else c) ≡ true
@@ -406,10 +410,10 @@ slot_left [] ys x l = absurd (no_less x l)
 slot_left (z ∷ xs) ys zero l = refl
 slot_left (z ∷ xs) ys (suc x) l = slot_left xs ys x (omega (arith, l))
 
-handed_set : (h : Stack) (n : ℕ) (ws : List Argument) (x : ℕ) (z : Option Slot) → Handed ws x z → IsSet (push_frame h n ws) n x z
-handed_set h n ws x (Some slot.Slice) p = let y = same_number n in rw y p
-handed_set h n ws x (Some slot.Scalar) p = let y = same_number n in only_zero (λ i. IsPresent ((push_frame h n ws).words n x i)) (rw y p)
-handed_set h n ws x (Some (slot.Array m)) p = absurd p
+handed_set : (h : Stack) (n : ℕ) (ws : List Argument) (x : ℕ) (z : Option Extent) → Handed ws x z → IsThere (push_frame h n ws) n x z
+handed_set h n ws x (Some extent.Reference) p = let y = same_number n in rw y p
+handed_set h n ws x (Some extent.Word) p = let y = same_number n in only_zero (λ i. IsPresent ((push_frame h n ws).words n x i)) (rw y p)
+handed_set h n ws x (Some (extent.Words m)) p = absurd p
 handed_set h n ws x None p = absurd p
 
 -- the first slots of a new frame are set, if the arguments fit them
@@ -418,9 +422,13 @@ pub pushed_sets : (program : Program) (h : Stack) (calls : List ℕ) (ws : List 
 pushed_sets program h calls ws parameters others e f x c =
     let l = in_numbers (length parameters) x c in
     let m : x < length ws = subst (λ q. x < q) (sym e) l in
-    subst (IsSet (push_frame h (length calls) ws) (length calls) x) (sym (slot_left parameters others x l)) (handed_set h (length calls) ws x (slice_get parameters x) (handed program h calls ws parameters x m f))
+    subst (IsSet (push_frame h (length calls) ws) (length calls) x) (sym (slot_left parameters others x l)) (handed_set h (length calls) ws x (extent_at parameters x) (handed program h calls ws parameters x m f))
 
 -- ---- states
+
+-- a rest with an item is not empty
+pub cons_empty : (x : Item) (k : List Item) → (x ∷ k) ≡ [] → ⊥
+cons_empty x k e = cc e
 
 -- no call is at hand
 abbrev pub IsPlain : Hand → Type 0

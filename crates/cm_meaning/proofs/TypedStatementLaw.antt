@@ -16,16 +16,14 @@ use Rattle.cm_syntax.specs.Text.{is_same}
 use Rattle.cm_syntax.specs.Resolution.{Variable, Scope, Role, lookup, hide, inner_scope, declare_name, declare_items, part_kind, part_slot, split_scope, reserve_slots, scope_after, statement_slots, statements_slots, body_slots, redeclaration, return_keyword, expression_uses, optional_uses, target_uses, redeclaration_uses, items_uses, spawn_uses, has_value, statement_uses, statements_uses, body_uses, resolve_mark, resolve_expression, resolve_optional, resolve_call, resolve_items, resolve_statement, resolve_statements, resolve_body}
 use Rattle.cm_syntax.specs.Fault.{Variant}
 use Rattle.cm_syntax.proofs.StatementLaw.{If-Alone, If-Else, While-Loop, For-Loop}
-use Rattle.cm_syntax.proofs.naming.NameLaw.{slots_counted}
+use Rattle.cm_syntax.proofs.naming.NameLaw.{slots_counted, Each, get_behind}
+use Rattle.cm_syntax.proofs.Rows.{row_of_block}
+use Rattle.cm_syntax.proofs.naming.SoundLaw.{no_fault}
 use Rattle.cm_meaning.specs.Typing.{set_by_items, set_behind, IsSetRow, TypedExpression, TypedItems, TypedReturn, TypedStatement, TypedSequence, TypedBody}
 use Rattle.cm_meaning.proofs.FormedLaw.{FormedExpression, FormedOptional, FormedItems, FormedStatement, FormedSequence, FormedBody}
-use Rattle.cm_meaning.proofs.TypedExpressionLaw.{Each, Each-parts, no_fault, Setting, IsClean, AreSet, without_set, more_set, set_scalar, set_row, typed_expression, typed_optional, typed_own_call, typed_target, typed_item}
+use Rattle.cm_meaning.proofs.TypedExpressionLaw.{Each-parts, Setting, IsClean, AreSet, without_set, more_set, set_scalar, set_row, typed_expression, typed_optional, typed_own_call, typed_target, typed_item}
 
 -- ---- lists
-
-get_behind : (before : List Slot) (kind : Slot) (rest : List Slot) → slice_get (before ++ kind ∷ rest) (length before) ≡ Some kind
-get_behind [] kind rest = refl
-get_behind (k ∷ before) kind rest = get_behind before kind rest
 
 Contains-first : (xs : List ℕ) (x : ℕ) → Contains (x ∷ xs) x
 Contains-first xs x = (0, omega arith, refl)
@@ -109,12 +107,6 @@ module _ (here : Setting) where
   block_typed : (n : _) (set : List ℕ) (row : Row_of-Stmt ℕ n) → TypedBody numbered slots f.gives set (items-the_row-Stmt ℕ n row) → TypedSequence numbered slots f.gives set row
   block_typed n set end_of-Stmt h = tt
   block_typed n set (more_of-Stmt first more) h = (h.0, block_typed _ (set_behind set first) more h.1)
-
-  -- the statements of a block or a split, as the row that it holds
-  abbrev pub row_of_block : Stmt ℕ → (n : _) × Row_of-Stmt ℕ n
-  row_of_block (statement.Block' _ row) = (_, row)
-  row_of_block (statement.Split' _ _ _ _ _ row _) = (_, row)
-  row_of_block _ = (_, end_of-Stmt)
 
   made_block : (set : List ℕ) (body : List (Stmt ℕ)) → TypedBody numbered slots f.gives set body → TypedStatement numbered slots f.gives set (statement.Block body)
   made_block set body h =

@@ -15,9 +15,11 @@ use Rattle.cm_syntax.specs.Limit.{max_frame_words, max_functions, max_parameter_
 use Rattle.cm_syntax.specs.Frame.{slots_words}
 use Rattle.cm_syntax.specs.Resolution.{Scope, Use, function_scope, declare_name, declare_items, body_slots, function_slots, items_uses, body_uses, function_uses, lookup_function, function_number, resolve_items, resolve_function, resolve_functions}
 use Rattle.cm_syntax.specs.Fault.{Variant, fault_where, parameter_slots, use_faults, frame_of, is_wrong_main, function_faults, functions_faults, is_main, faults, program_of, IsSoundProgram}
+use Rattle.cm_syntax.proofs.naming.NameLaw.{Each}
+use Rattle.cm_syntax.proofs.naming.SoundLaw.{nothing_first, nothing_second, no_fault}
 use Rattle.cm_meaning.specs.Typing.{IsParameter, set_by_items, TypedBody, numbers_below, TypedFunction, TypedProgram}
 use Rattle.cm_meaning.proofs.FormedLaw.{FormedFunction, sound_formed}
-use Rattle.cm_meaning.proofs.TypedExpressionLaw.{Each, Each-parts, nothing_first, nothing_second, no_fault, neither_first, neither_second, Standing, Setting}
+use Rattle.cm_meaning.proofs.TypedExpressionLaw.{Each-parts, neither_first, neither_second, Standing, Setting}
 use Rattle.cm_meaning.proofs.TypedStatementLaw.{Fits, items_fit, typed_body}
 
 -- ---- lists

@@ -22,11 +22,14 @@ use Rattle.cm_syntax.specs.Text.{is_same}
 use Rattle.cm_syntax.specs.Resolution.{Variable, Scope, Role, ArgumentForm, value_form, slice_form, any_form, lookup, hide, inner_scope, function_scope, declare_name, declare_items, split_scope, reserve_slots, scope_after, slot_count, statement_slots, statements_slots, body_slots, function_slots, redeclaration, redeclaration_uses, mention, mention_of, variable_form, expression_uses, arguments_uses, argument_uses, optional_uses, call_uses, target_uses, items_uses, spawn_uses, statement_uses, statements_uses, body_uses, variable_number, resolve_mark, resolve_bare, resolve_expression, resolve_arguments, resolve_argument, resolve_optional, resolve_call, resolve_target, resolve_items, resolve_statement, resolve_statements, resolve_body, resolve_function, resolve_functions}
 use Rattle.cm_syntax.specs.Fault.{use_faults, functions_faults, IsSoundProgram}
 use Rattle.cm_syntax.proofs.StatementLaw.{If-Alone, If-Else, While-Loop, For-Loop}
+use Rattle.cm_syntax.proofs.Rows.{row_of_call, row_of_block}
+use Rattle.cm_syntax.proofs.naming.NameLaw.{Each}
+use Rattle.cm_syntax.proofs.naming.SoundLaw.{nothing_first}
 use Rattle.cm_meaning.specs.Typing.{set_by_items, set_behind}
 use Rattle.cm_meaning.specs.Visible.{Among, IsOpen, IsFresh, IsVisible, SeesExpression, SeesArguments, SeesArgument, SeesOptional, SeesItem, SeesItems, SeesTarget, SeesStatement, SeesSequence, SeesBody, SeesFunction, SeesProgram}
 use Rattle.cm_meaning.proofs.FormedLaw.{FormedExpression, FormedArguments, FormedArgument, FormedOptional, FormedItem, FormedItems, FormedTarget, FormedStatement, FormedSequence, FormedBody, FormedFunction, sound_formed}
-use Rattle.cm_meaning.proofs.TypedExpressionLaw.{Each, Each-parts, nothing_first, Setting, IsClean, IsCall}
-use Rattle.cm_meaning.proofs.TypedStatementLaw.{Fits, next_is, declared_fits, within_fits, past_fits, items_fit, regrouped, after_fits, parts_fit, row_of_block}
+use Rattle.cm_meaning.proofs.TypedExpressionLaw.{Each-parts, Setting, IsClean, IsCall}
+use Rattle.cm_meaning.proofs.TypedStatementLaw.{Fits, next_is, declared_fits, within_fits, past_fits, items_fit, regrouped, after_fits, parts_fit}
 use Rattle.cm_meaning.proofs.TypingLaw.{Contains-at, clean_at, Clean, resolved_at, known_function, numbered}
 
 module _ (here : Setting) where
@@ -182,10 +185,6 @@ module _ (here : Setting) where
     row_seen n end_of-Arg h = tt
     row_seen n (more_of-Arg first more) h = (h.0, row_seen _ more h.1)
 
-    abbrev row_of_call : Expr ℕ → (n : _) × Row_of-Arg ℕ n
-    row_of_call (expression.Call' _ _ row) = (_, row)
-    row_of_call _ = (_, end_of-Arg)
-
     seen_call : (call : Call ℕ) → SeesList call.arguments → SeesExpression slots known hidden (expression.Call call)
     seen_call call h =
         let row = row_of_call (expression.Call call) in
@@ -273,13 +272,13 @@ module _ (here : Setting) where
 
   made_block : (known hidden : List ℕ) (body : List (Stmt ℕ)) → SeesBody slots known hidden body → SeesStatement slots known hidden (statement.Block body)
   made_block known hidden body h =
-      let row = row_of_block here (statement.Block body) in
+      let row = row_of_block (statement.Block body) in
       block_seen row.0 known hidden row.1 (subst (SeesBody slots known hidden) (sym (items_hidden-the_row-Stmt-1 ℕ body)) h)
 
   made_split : (known hidden : List ℕ) (whole : Mark ℕ) (index : Expr ℕ) (left right : Mark ℕ) (body : List (Stmt ℕ)) (close : ℕ) → IsVisible slots known hidden whole.name → SeesExpression slots known hidden index
       → IsFresh known hidden whole.name left.name right.name → SeesBody slots (right.name ∷ left.name ∷ known) (whole.name ∷ hidden) body → SeesStatement slots known hidden (statement.Split whole index left right body close)
   made_split known hidden whole index left right body close a e f h =
-      let row = row_of_block here (statement.Split whole index left right body close) in
+      let row = row_of_block (statement.Split whole index left right body close) in
       (a, e, f, block_seen row.0 (right.name ∷ left.name ∷ known) (whole.name ∷ hidden) row.1 (subst (SeesBody slots (right.name ∷ left.name ∷ known) (whole.name ∷ hidden)) (sym (items_hidden-the_row-Stmt-1 ℕ body)) h))
 
   -- within a split

@@ -7,8 +7,9 @@ use Rattle.cm_syntax.specs.declared.expr.Expr.{Expr}
 use Rattle.cm_syntax.specs.declared.expr.Expr.TheVariants as expression
 use Rattle.cm_syntax.specs.declared.expr.Arg.TheVariants as arg
 use Rattle.cm_syntax.specs.declared.expr.Call.{end_of-Arg, more_of-Arg}
-use Rattle.cm_syntax.specs.declared.stmt.Slot.{Slot}
-use Rattle.cm_syntax.specs.declared.stmt.Slot.TheVariants as slot
+use Rattle.cm_syntax.specs.declared.stmt.Extent.{Extent}
+use Rattle.cm_syntax.specs.declared.stmt.Extent.TheVariants as extent
+use Rattle.cm_syntax.specs.Extent.{extent_of}
 use Rattle.cm_syntax.specs.declared.stmt.Item as items
 use Rattle.cm_syntax.specs.declared.stmt.Target.TheVariants as target
 use Rattle.cm_syntax.specs.declared.stmt.Stmt.{Stmt, end_of-Stmt, more_of-Stmt}
@@ -26,6 +27,7 @@ use Rattle.cm_syntax.proofs.AccessLaw.{reading, writing}
 use Rattle.cm_meaning.specs.Weight.{expression_weight, arguments_weight, optional_weight, declare_weight, statement_weight, sequence_weight, body_weight, other_weight, rest_weight, join_weight, function_weight, weight_by, weight}
 use Rattle.cm_meaning.specs.Law.{LowersWeight}
 use Rattle.cm_meaning.proofs.EndLaw.{Lowers}
+use Rattle.cm_meaning.proofs.TypedFramesLaw.{IsPlain}
 
 join_below : (k : List Item) → join_weight k ≤ rest_weight k
 join_below [] = omega arith
@@ -34,11 +36,6 @@ join_below (end ∷ k) = omega arith
 join_below (tick ∷ k) = omega arith
 join_below (exit ∷ k) = omega arith
 join_below (_ ∷ k) = let h = join_below k in omega (arith, h)
-
-abbrev IsPlain : Hand → Type 0
-IsPlain (entering f vs) = ⊥
-IsPlain (framing f vs) = ⊥
-IsPlain _ = Unit {0}
 
 module _ (program : Program) (page : ℕ) (input : List ℤ) where
   -- a silent step, a print, a spawn or a sync leads to less weight than this
@@ -73,10 +70,10 @@ module _ (program : Program) (page : ℕ) (input : List ℤ) where
   falls_slice : (c : Control) (g : Stack) (s : ℕ) (f : Reference → Move) (n : ℕ) → ((r : Reference) → Falls (f r) n) → Falls (when_slice program page input c g s f) n
   falls_slice c g s f n h = by (slot_at program page input c.calls s)
     where
-      by : (z : Option Slot) → Falls (slice_in c.calls g z s f) n
-      by (Some slot.Scalar) = h _
-      by (Some (slot.Array w)) = h _
-      by (Some slot.Slice) = falls_present (g.references (top c.calls) s) f n h
+      by : (z : Option Extent) → Falls (slice_in c.calls g z s f) n
+      by (Some extent.Word) = h _
+      by (Some (extent.Words w)) = h _
+      by (Some extent.Reference) = falls_present (g.references (top c.calls) s) f n h
       by None = tt
 
   falls_result : (p : Op) (v : Option ℤ) (f : ℤ → Move) (n : ℕ) → ((w : ℤ) → Falls (f w) n) → Falls (when_result p v f) n
@@ -133,11 +130,11 @@ module _ (program : Program) (page : ℕ) (input : List ℤ) where
   falls_leave c h (end ∷ k) p = tt
   falls_leave c h (_ ∷ k) p = falls_leave c h k p
 
-  falls_declare : (c : Control) (h : Stack) (x : ℕ) (z : Slot) (e : Option (Expr ℕ)) (more : List (items.Item ℕ)) (k : List Item) → Falls (declare_item c h x z e more k) (optional_weight e + (declare_weight more + 2) + rest_weight k)
-  falls_declare c h x slot.Scalar None more k = falls_write c h (top c.calls) x 0 None (pos 0) (declare more ∷ k) _ (omega arith)
-  falls_declare c h x slot.Scalar (Some e) more k = omega arith
-  falls_declare c h x (slot.Array n) e more k = let l : declare_weight more + rest_weight k < optional_weight e + (declare_weight more + 2) + rest_weight k = omega arith in falls_if (may_write_all (h.words (top c.calls) x) n) _ _ _ l tt
-  falls_declare c h x slot.Slice e more k = tt
+  falls_declare : (c : Control) (h : Stack) (x : ℕ) (z : Extent) (e : Option (Expr ℕ)) (more : List (items.Item ℕ)) (k : List Item) → Falls (declare_item c h x z e more k) (optional_weight e + (declare_weight more + 2) + rest_weight k)
+  falls_declare c h x extent.Word None more k = falls_write c h (top c.calls) x 0 None (pos 0) (declare more ∷ k) _ (omega arith)
+  falls_declare c h x extent.Word (Some e) more k = omega arith
+  falls_declare c h x (extent.Words n) e more k = let l : declare_weight more + rest_weight k < optional_weight e + (declare_weight more + 2) + rest_weight k = omega arith in falls_if (may_write_all (h.words (top c.calls) x) n) _ _ _ l tt
+  falls_declare c h x extent.Reference e more k = tt
 
   falls_end : (c : Control) (h : Stack) (calls : List ℕ) (k : List Item) (n : ℕ) → rest_weight k < n → Falls (end_call program page input c h calls k) n
   falls_end c h [] k n l = tt
@@ -219,7 +216,7 @@ module _ (program : Program) (page : ℕ) (input : List ℤ) where
   falls_item c h (body []) k p = omega arith
   falls_item c h (body (s ∷ l)) k p = omega arith
   falls_item c h (declare []) k p = omega arith
-  falls_item c h (declare (x ∷ more)) k p = falls_declare c h x.name.name x.slot x.first more k
+  falls_item c h (declare (x ∷ more)) k p = falls_declare c h x.name.name (extent_of x.slot) x.first more k
   falls_item c h (assign x) k p = falls_to c.hand _ _ (rest_weight k) (omega arith) (λ v l. falls_write c h (top c.calls) x 0 None v k _ l)
   falls_item c h (update x q) k p = falls_to c.hand _ _ (rest_weight k) (omega arith) (λ v l. falls_write c h (top c.calls) x 0 (Some q) v k _ l)
   falls_item c h (locate s q e) k p = falls_to c.hand _ _ (expression_weight e + (1 + rest_weight k)) (omega arith) (λ v l. falls_slice c h s _ _ (λ r. falls_if (is_index v r.length) _ _ _ l tt))

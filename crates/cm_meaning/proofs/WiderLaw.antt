@@ -1,35 +1,22 @@
 -- What a run of the elision leaves of the frames below those of its call: each word is as it was or has a value, and each
 -- reference is as it was.
-use Rattle.std.proofs.Common.{◌≡◌, ℕ, zero, suc, ◌+◌, ◌<◌, ◌≤◌, List, [], ◌∷◌, length, Option, None, Some, refl, sym, ap, ◌∙◌, subst, arith, inl, inr}
+use Rattle.std.proofs.Common.{◌≡◌, ℕ, ◌<◌, ◌≤◌, List, [], ◌∷◌, length, Option, None, Some, refl, sym, ap, ◌∙◌, subst, arith, inl, inr}
 use Rattle.std.proofs.lemmas.Bool.Decides.{eqb_tells}
-use Rattle.cm_meaning.proofs.BesideLaw.{and_true, below, one_place, in_slot}
+use Rattle.cm_meaning.proofs.BesideLaw.{one_place, in_slot}
 use Rattle.std.specs.Prelude.{◌-◌, ◌⊎◌, nat_le, Bool, true, false, ◌==◌, ◌&&◌, if◌then◌else◌, nat_lt, ℤ, pos, ⊤, slice_get}
-use Rattle.cm_syntax.specs.declared.expr.Op.{Op}
-use Rattle.cm_syntax.specs.declared.expr.Op.TheVariants as op
-use Rattle.cm_syntax.specs.declared.expr.Expr.{Expr}
-use Rattle.cm_syntax.specs.declared.expr.Expr.TheVariants as expression
-use Rattle.cm_syntax.specs.declared.expr.Arg.TheVariants as arg
-use Rattle.cm_syntax.specs.declared.expr.Call.{end_of-Arg, more_of-Arg}
-use Rattle.cm_syntax.specs.declared.stmt.Slot.{Slot}
-use Rattle.cm_syntax.specs.declared.stmt.Slot.TheVariants as slot
-use Rattle.cm_syntax.specs.declared.stmt.Item as items
-use Rattle.cm_syntax.specs.declared.stmt.Target.TheVariants as target
-use Rattle.cm_syntax.specs.declared.stmt.Stmt.{Stmt, end_of-Stmt, more_of-Stmt}
-use Rattle.cm_syntax.specs.declared.stmt.Stmt.TheVariants as statement
 use Rattle.cm_syntax.specs.declared.stmt.Function.{Function}
 use Rattle.cm_syntax.specs.declared.stmt.Program.{Program}
-use Rattle.cm_syntax.specs.Shape.{Joined, Prefixed, Element, InputAt, IfAlone, IfElse, WhileLoop, ForLoop}
 use Rattle.cm_syntax.specs.Trap as kind
 use Rattle.cm_syntax.specs.Label.{silent, ticks, prints, spawns, syncs, traps, ends, stuck}
-use Rattle.cm_syntax.specs.Operator.{is_zero, natural, binary_value, divides, unary_value}
 use Rattle.cm_syntax.specs.Cell.{Cell, present, may_write}
-use Rattle.cm_syntax.specs.Stack.{Reference, Stack, Destination, Argument, write_word, clear_words, write_parts, may_write_all, push_frame, pop_frame}
-use Rattle.cm_syntax.specs.Rest.{Purpose, called, spawned, Item, evaluate, right, apply, prefix, both, either, truth, element, read, arguments, pass, take_back, discard, deliver, perform, sequence, body, declare, assign, update, locate, store, branch, turn, test, part, tick, show, exit, fall, join, end, Hand, idle, holds, returned, entering, framing, Control, control}
-use Rattle.cm_syntax.specs.Step.{Move, top, to, inside, rest_at_join, when_readable, when_writable, when_value, when_result, when_some, write_step, leave, is_index, is_split, slice_in, destination_slot, invoke, enter_call, take_value, drop_value, deliver_value, declare_item, do_other, push_call, call_bytes_in, hand_step, fall_off, slot_at, running_function, when_slice, end_call, give_input, evaluate_step, statement_step, item_step, step}
-use Rattle.cm_syntax.proofs.AccessLaw.{reading, writing}
+use Rattle.cm_syntax.specs.Stack.{Reference, Stack, Destination, Argument, write_word, clear_words, write_parts, push_frame, pop_frame}
+use Rattle.cm_syntax.specs.Rest.{Item, body, fall, join, end, Hand, idle, holds, returned, entering, framing, Control, control}
+use Rattle.cm_syntax.specs.Step.{Move, top, inside, rest_at_join, leave, push_call, call_bytes_in, hand_step, end_call, item_step, step}
 use Rattle.cm_meaning.specs.Elision as elision
 use Rattle.cm_meaning.specs.Elision.{serial}
 use Rattle.cm_meaning.specs.Meaning.{serial_step, Comes}
+use Rattle.cm_meaning.proofs.Walk.{Change, nothing, word, zeros, parts, changed, MayChange, IsFree, IsFreeReference, MoveRules}
+use Rattle.cm_meaning.proofs.WalkLaw.{move_law}
 use Rattle.cm_meaning.proofs.SettledLaw.{Moves, Keeps, good_law, some_act, depth_below}
 use Rattle.cm_meaning.proofs.TypedFramesLaw.{IsPlain}
 use Rattle.cm_meaning.specs.Activation.{base, end_count, FitsHand, IsSettled}
@@ -56,14 +43,6 @@ wide_joined n h g k a b = record {
 put_or : (q : Bool) (c : Cell ℤ) (v : ℤ) → (q ≡ true → may_write c ≡ true) → ((if q then present v else c) ≡ c) ⊎ ((may_write c ≡ true) × IsPresent (if q then present v else c))
 put_or true c v h = inr (h refl, tt)
 put_or false c v h = inl refl
-
--- each word of those that may all be written may be
-all_writable : (a : ℕ → Cell ℤ) (n : ℕ) → may_write_all a n ≡ true → (i : ℕ) → i < n → may_write (a i) ≡ true
-all_writable a zero h i l = absurd (omega (arith, l))
-all_writable a (suc n) h i l = let both_ = and_true (may_write (a n)) (may_write_all a n) h in elim (eqb_tells i n) [
-  | inl one ↦ ap (λ z. may_write (a z)) one.1 ∙ both_.0
-  | inr ne ↦ all_writable a n both_.1 i (below i n ne.1 l)
-]
 
 apart_of : (d n : ℕ) → d < n → (d == n) ≡ false
 apart_of d n l = elim (eqb_tells d n) [ inl one ↦ absurd (less d n l one.1) | inr ne ↦ ne.0 ]
@@ -101,8 +80,8 @@ module _ (program : Program) (page : ℕ) (input : List ℤ) (n : ℕ) where
     written : (d s i : ℕ) (v : ℤ) → may_write (h.words d s i) ≡ true → Wide n h (write_word h d s i v)
     written d s i v m = record { words = λ e t j l. put_or (e == d && (t == s && j == i)) (h.words e t j) v (λ q. let x = one_place e d t s j i q in ap (λ z. may_write (h.words z t j)) x.0 ∙ ap (λ z. may_write (h.words d z j)) x.1 ∙ ap (λ z. may_write (h.words d s z)) x.2 ∙ m); references = λ e t l. refl }
 
-    cleared : (d s m : ℕ) → may_write_all (h.words d s) m ≡ true → Wide n h (clear_words h d s m)
-    cleared d s m all = record { words = λ e t j l. put_or (e == d && (t == s && nat_lt j m)) (h.words e t j) (pos 0) (λ q. let x = in_slot e d t s j m q in ap (λ z. may_write (h.words z t j)) x.0 ∙ ap (λ z. may_write (h.words d z j)) x.1 ∙ all_writable (h.words d s) m all j x.2); references = λ e t l. refl }
+    cleared : (d s m : ℕ) → ((i : ℕ) → i < m → IsFree h d s i) → Wide n h (clear_words h d s m)
+    cleared d s m all = record { words = λ e t j l. put_or (e == d && (t == s && nat_lt j m)) (h.words e t j) (pos 0) (λ q. let x = in_slot e d t s j m q in ap (λ z. may_write (h.words z t j)) x.0 ∙ ap (λ z. may_write (h.words d z j)) x.1 ∙ all j x.2); references = λ e t l. refl }
 
     parted : (a b : ℕ) (r : Reference) (m : ℕ) → Wide n h (write_parts h (top c.calls) a b r m)
     parted a b r m = record {
@@ -110,172 +89,38 @@ module _ (program : Program) (page : ℕ) (input : List ℤ) (n : ℕ) where
       references = λ e t l. let x : (e == top c.calls) ≡ false = apart_of e (top c.calls) (omega (arith, l, low)) in rw x refl;
     }
 
-    module _ (k : List Item) where
-      wide_present : {A : Type 0} (y : Cell A) (f : A → Move) → ((v : A) → Ok (f v)) → Ok (when_readable y f)
-      wide_present y f e = reading Ok tt y f (λ v q. e v)
+    wide_leave : (r : List Item) → Ok (leave c h (rest_at_join r))
+    wide_leave [] = tt
+    wide_leave (join ∷ r) = same
+    wide_leave (end ∷ r) = tt
+    wide_leave (_ ∷ r) = wide_leave r
 
-      wide_held : {A : Type 0} (y : Cell A) (f : Move) → (may_write y ≡ true → Ok f) → Ok (when_writable y f)
-      wide_held y f e = writing Ok tt y f e
+    wide_changed : (w : Change) → MayChange (IsFree h) (IsFreeReference h) (top c.calls) w → Wide n h (changed (top c.calls) w h)
+    wide_changed nothing m = same
+    wide_changed (word d s i v) m = written d s i v m
+    wide_changed (zeros s m) all = cleared (top c.calls) s m all
+    wide_changed (parts a b r m) o = parted a b r m
 
-      wide_value : (y : Hand) (f : ℤ → Move) → ((v : ℤ) → Ok (f v)) → Ok (when_value y f)
-      wide_value (holds v) f e = e v
-      wide_value _ f e = tt
-
-      wide_if : (t : Bool) (f g : Move) → Ok f → Ok g → Ok (if t then f else g)
-      wide_if true f g a b = a
-      wide_if false f g a b = b
-
-      wide_slice : (s : ℕ) (f : Reference → Move) → ((r : Reference) → Ok (f r)) → Ok (when_slice program page input c h s f)
-      wide_slice s f e = by (slot_at program page input c.calls s)
-        where
-          by : (y : Option Slot) → Ok (slice_in c.calls h y s f)
-          by (Some slot.Scalar) = e _
-          by (Some (slot.Array w)) = e _
-          by (Some slot.Slice) = wide_present (h.references (top c.calls) s) f e
-          by None = tt
-
-      wide_result : (p : Op) (v : Option ℤ) (f : ℤ → Move) → ((w : ℤ) → Ok (f w)) → Ok (when_result p v f)
-      wide_result p (Some v) f e = e v
-      wide_result p None f e = wide_if (divides p) _ _ tt tt
-
-      wide_some : (v : Option ℤ) (f : ℤ → Move) → ((w : ℤ) → Ok (f w)) → Ok (when_some v f)
-      wide_some (Some v) f e = e v
-      wide_some None f e = tt
-
-      wide_write : (d s i : ℕ) (p : Option Op) (v : ℤ) (r : List Item) → Ok (write_step c h d s i p v r)
-      wide_write d s i None v r = wide_held (h.words d s i) _ (λ m. written d s i v m)
-      wide_write d s i (Some p) v r = wide_held (h.words d s i) _ (λ m. wide_present (h.words d s i) _ (λ old. wide_result p (binary_value p old v) _ (λ w. written d s i w m)))
-
-      wide_call : (u : Purpose) (f : ℕ) (ws : List Argument) → Ok (enter_call c h u f ws k)
-      wide_call called f ws = same
-      wide_call (spawned None) f ws = tt
-      wide_call (spawned (Some y)) f ws = wide_held (h.words (top c.calls) y 0) _ (λ m. tt)
-
-      wide_input : (v : Option ℤ) → Ok (give_input program page input c h v k)
-      wide_input None = tt
-      wide_input (Some v) = same
-
-      wide_invoke : (u : Purpose) (e : Expr ℕ) (r : List Item) → Ok (invoke c h u e r)
-      wide_invoke u (expression.Call' f _ row) r = same
-      wide_invoke u _ r = tt
-
-      wide_take : (y : Hand) → Ok (take_value c h y k)
-      wide_take (returned (Some v)) = same
-      wide_take (returned None) = tt
-      wide_take _ = tt
-
-      wide_drop : (y : Hand) → Ok (drop_value c h y k)
-      wide_drop (returned v) = same
-      wide_drop _ = tt
-
-      wide_deliver : (y : Hand) (t : Destination) → Ok (deliver_value c h y t k)
-      wide_deliver (returned v) None = same
-      wide_deliver (returned None) (Some t) = same
-      wide_deliver (returned (Some v)) (Some t) = wide_write t.depth t.slot 0 None v k
-      wide_deliver _ _ = tt
-
-      wide_other : (s : Option (Stmt ℕ)) → Ok (do_other c h s k)
-      wide_other None = same
-      wide_other (Some s) = same
-
-      wide_fall : (f : Option (Function ℕ)) → Ok (fall_off c h f k)
-      wide_fall None = tt
-      wide_fall (Some f) = wide_if f.gives _ _ (same) (same)
-
-      wide_leave : (r : List Item) → Ok (leave c h (rest_at_join r))
-      wide_leave [] = tt
-      wide_leave (join ∷ r) = same
-      wide_leave (end ∷ r) = tt
-      wide_leave (_ ∷ r) = wide_leave r
-
-      wide_declare : (y : ℕ) (s : Slot) (e : Option (Expr ℕ)) (more : List (items.Item ℕ)) → Ok (declare_item c h y s e more k)
-      wide_declare y slot.Scalar None more = wide_write (top c.calls) y 0 None (pos 0) (declare more ∷ k)
-      wide_declare y slot.Scalar (Some e) more = same
-      wide_declare y (slot.Array n) e more = by (may_write_all (h.words (top c.calls) y) n) refl
-        where
-          by : (q : Bool) → may_write_all (h.words (top c.calls) y) n ≡ q → Ok (if q then silent (to c (declare more ∷ k)) (clear_words h (top c.calls) y n) else stuck)
-          by true a = cleared (top c.calls) y n a
-          by false a = tt
-      wide_declare y slot.Slice e more = tt
-
-      wide_evaluate : (e : Expr ℕ) → Ok (evaluate_step program page input c h e k)
-      wide_evaluate (expression.Number n) = same
-      wide_evaluate (expression.Scalar y) = wide_present (h.words (top c.calls) y.name 0) _ (λ v. same)
-      wide_evaluate (Element p e) = same
-      wide_evaluate (expression.Len p) = wide_slice p.name _ (λ r. same)
-      wide_evaluate (InputAt e) = same
-      wide_evaluate expression.Inputs = same
-      wide_evaluate (Prefixed p e) = same
-      wide_evaluate (Joined op.Both a b) = same
-      wide_evaluate (Joined op.Either a b) = same
-      wide_evaluate (Joined p a b) = same
-      wide_evaluate (expression.Call' f _ row) = same
-
-      wide_statement : (s : Stmt ℕ) → Ok (statement_step program page input c h s k)
-      wide_statement statement.Empty = same
-      wide_statement (statement.Declare row) = same
-      wide_statement (statement.Assign (target.Scalar y) None e) = same
-      wide_statement (statement.Assign (target.Scalar y) (Some p) e) = same
-      wide_statement (statement.Assign (target.Index y place) p e) = same
-      wide_statement (statement.Call call) = wide_invoke called (expression.Call call) (discard ∷ k)
-      wide_statement (statement.Spawn at y call) = wide_invoke (spawned (destination_slot y)) (expression.Call call) k
-      wide_statement (statement.Sync at) = tt
-      wide_statement (IfAlone t s) = same
-      wide_statement (IfElse t s p) = same
-      wide_statement (WhileLoop t s) = same
-      wide_statement (ForLoop first t s p) = same
-      wide_statement (statement.Split' whole place a b _ row close) = same
-      wide_statement (statement.Return at None) = same
-      wide_statement (statement.Return at (Some e)) = same
-      wide_statement (statement.Print e) = same
-      wide_statement (statement.Block' _ row) = same
+    rules : (k : List Item) → MoveRules Ok c h k
+    rules k = record {
+      none = tt;
+      error = λ t. tt;
+      goes = λ w y new m q. wide_changed w m;
+      called = λ f ws. same;
+      spawns = λ f ws y m. tt;
+      ticks = λ y. same;
+      prints = λ v. same;
+      syncs = λ y. tt;
+      leaves = wide_leave k;
+    }
 
     wide_end : (calls : List ℕ) (k : List Item) → n ≤ top calls → Ok (end_call program page input c h calls k)
     wide_end [] k l = tt
     wide_end (f ∷ calls) k l = popped_wide n (length calls) h l
 
     pub wide_item : (i : Item) (k : List Item) → Ok (item_step program page input c h i k)
-    wide_item (evaluate e) k = wide_evaluate k e
-    wide_item (right p r) k = wide_value k c.hand _ (λ v. same)
-    wide_item (apply p a) k = wide_value k c.hand _ (λ v. wide_result k p (binary_value p a v) _ (λ w. same))
-    wide_item (prefix p) k = wide_value k c.hand _ (λ v. wide_some k (unary_value p v) _ (λ w. same))
-    wide_item (both r) k = wide_value k c.hand _ (λ v. wide_if k (is_zero v) _ _ (same) (same))
-    wide_item (either r) k = wide_value k c.hand _ (λ v. wide_if k (is_zero v) _ _ (same) (same))
-    wide_item truth k = wide_value k c.hand _ (λ v. same)
-    wide_item (element s) k = wide_value k c.hand _ (λ v. wide_slice k s _ (λ r. wide_if k (is_index v r.length) _ _ (wide_present k (h.words r.depth r.slot (r.start + natural v)) _ (λ w. same)) tt))
-    wide_item read k = wide_value k c.hand _ (λ v. wide_if k (is_index v (length input)) _ _ (wide_input k (slice_get input (natural v))) tt)
-    wide_item (arguments u f ws end_of-Arg) k = wide_call k u f ws
-    wide_item (arguments u f ws (more_of-Arg (arg.Value e) more)) k = same
-    wide_item (arguments u f ws (more_of-Arg (arg.Slice y) more)) k = wide_slice k y.name _ (λ r. same)
-    wide_item (arguments u f ws (more_of-Arg (arg.Address y) more)) k = same
-    wide_item (pass u f ws more) k = wide_value k c.hand _ (λ v. same)
-    wide_item take_back k = wide_take k c.hand
-    wide_item discard k = wide_drop k c.hand
-    wide_item (deliver y) k = wide_deliver k c.hand y
-    wide_item (perform s) k = wide_statement k s
-    wide_item (sequence end_of-Stmt) k = same
-    wide_item (sequence (more_of-Stmt s m)) k = same
-    wide_item (body []) k = same
-    wide_item (body (s ∷ m)) k = same
-    wide_item (declare []) k = same
-    wide_item (declare (y ∷ more)) k = wide_declare k y.name.name y.slot y.first more
-    wide_item (assign y) k = wide_value k c.hand _ (λ v. wide_write k (top c.calls) y 0 None v k)
-    wide_item (update y p) k = wide_value k c.hand _ (λ v. wide_write k (top c.calls) y 0 (Some p) v k)
-    wide_item (locate s p e) k = wide_value k c.hand _ (λ v. wide_slice k s _ (λ r. wide_if k (is_index v r.length) _ _ (same) tt))
-    wide_item (store s i p) k = wide_value k c.hand _ (λ v. wide_slice k s _ (λ r. wide_write k r.depth r.slot (r.start + i) p v k))
-    wide_item (branch s p) k = wide_value k c.hand _ (λ v. wide_if k (is_zero v) _ _ (wide_other k p) (same))
-    wide_item (turn (Some t) s p) k = same
-    wide_item (turn None s p) k = same
-    wide_item (test t s p) k = wide_value k c.hand _ (λ v. wide_if k (is_zero v) _ _ (same) (same))
-    wide_item (part s a b row) k = wide_value k c.hand _ (λ v. wide_slice k s _ (λ y. wide_if k (is_split v y.length) _ _
-        (wide_held k (h.references (top c.calls) a) _ (λ q. wide_held k (h.references (top c.calls) b) _ (λ r.
-        parted a b y (natural v)))) tt))
-    wide_item tick k = same
-    wide_item show k = wide_value k c.hand _ (λ v. same)
-    wide_item exit k = wide_leave k k
-    wide_item fall k = wide_fall k (running_function program page input c.calls)
-    wide_item join k = tt
     wide_item end k = wide_end c.calls k low
+    wide_item i k = move_law program page input Ok c h k (rules k) i tt
 
   -- ---- steps and runs
 

@@ -5,6 +5,7 @@ use Rattle.std.specs.Borrow.{Bor}
 use Rattle.cm_text.specs.declared.error.Memory.{Memory}
 use Rattle.cm_syntax.specs.declared.expr.Op.{Op}
 use Rattle.cm_syntax.specs.declared.stmt.Slot.TheVariants as slot
+use Rattle.cm_syntax.specs.Extent.{extent_of, extent_at}
 use Rattle.cm_syntax.specs.declared.stmt.Item as items
 use Rattle.cm_syntax.specs.declared.stmt.Stmt.{Stmt}
 use Rattle.cm_syntax.specs.Label.{silent, traps, stuck}
@@ -32,6 +33,7 @@ use Rattle.cm_meaning.specs.Evaluator.{statements_row, items_of, hand_count, pas
 use Rattle.cm_syntax.proofs.AccessLaw.{writes_on}
 use Rattle.cm_meaning.proofs.StatementStepLaw.{of_ok}
 use Rattle.cm_meaning.proofs.EvaluatorLaw.{control_by, control_at, behind_work, work_move, elided, serial_move, kept_behind, same_run, control_behind, does_by, put_does, Inside, ready_inside, RowAt, row_at, row_word, row_word_value, row_few, scalar_value, slot_is, slot_at_is, top_is, top_lives}
+use Rattle.cm_meaning.specs.Range.{max_stack_words}
 
 -- ---- the statements of a block
 
@@ -173,7 +175,7 @@ module _ (old : Evaluator) (x i : ℕ) (op : Option Op) (v : ℤ) (row : declare
   -- the element
   pub record StoreAt (h : Stack) : Type 0 where
     pub inside : Inside old.program.now h (calls_in old.frames) (at_hand (rest.holds v)) (rest.store x i op ∷ behind_work old (works.Store x i op))
-    pub at_row : RowAt old.program.now h (calls_in old.frames) (top (calls_in old.frames)) (slice_get inside.function.slots x) x (reference_of row)
+    pub at_row : RowAt old.program.now h (calls_in old.frames) (top (calls_in old.frames)) (extent_at inside.function.slots x) x (reference_of row)
     pub low : i < row.length
 
   store_at : (h : Stack) → IsTypedAt old (control_with (works.Store x i op ∷ []) old) h → StoreAt h
@@ -191,7 +193,7 @@ module _ (old : Evaluator) (x i : ℕ) (op : Option Op) (v : ℤ) (row : declare
   store_there = let s = store_at ready.2 ready.3 in row_word old ready.0 ready.2 (reference_of row) s.at_row.fits i s.low
 
   -- its index is small
-  pub store_few : row.start + i < 262144
+  pub store_few : row.start + i < max_stack_words
   store_few = let s = store_at ready.2 ready.3 in omega (arith, s.low, row_few old ready.0 ready.2 (reference_of row) s.at_row.fits)
 
   -- the value goes into it
@@ -229,7 +231,7 @@ module _ (old : Evaluator) (x left right : ℕ) (row : Bor (List (Stmt ℕ))) (v
   -- the row that is parted
   pub record PartAt (h : Stack) : Type 0 where
     pub inside : Inside old.program.now h (calls_in old.frames) (at_hand (rest.holds v)) (rest.part x left right (statements_row row.now).1 ∷ behind_work old (works.Part x left right row))
-    pub at_row : RowAt old.program.now h (calls_in old.frames) (top (calls_in old.frames)) (slice_get inside.function.slots x) x (reference_of whole)
+    pub at_row : RowAt old.program.now h (calls_in old.frames) (top (calls_in old.frames)) (extent_at inside.function.slots x) x (reference_of whole)
 
   part_at : (h : Stack) → IsTypedAt old (control_with (works.Part x left right row ∷ []) old) h → PartAt h
   part_at h at =
@@ -237,7 +239,7 @@ module _ (old : Evaluator) (x left right : ℕ) (row : Bor (List (Stmt ℕ))) (v
       record { inside = inside; at_row = row_at old ready.0 h _ _ inside x (reference_of whole) at.0.refers inside.inner.1 (found h at.1) }
 
   -- its words are few
-  pub part_few : whole.start + whole.length ≤ 262144
+  pub part_few : whole.start + whole.length ≤ max_stack_words
   part_few = omega (arith, row_few old ready.0 ready.2 (reference_of whole) (part_at ready.2 ready.3).at_row.fits)
 
   -- it is parted there
@@ -282,7 +284,7 @@ does_array old new frames row more item n r ready is array re shows going put =
     let typed = subst (λ xs. TypedItems old.program.now.functions inside.function.slots inside.set xs) is inside.inner.0 in
     let words : row_words (slot_in old.frames x) ≡ n = ap row_words (slot_is old ready.0 h _ _ inside x ∙ typed.0 ∙ ap (λ s. Some s) array) in (
       clear_words h d x n,
-      ap (λ xs. item_step old.program.now old.page old.input.now c h (rest.declare xs) k) is ∙ ap (λ s. declare_item c h x s item.first more.now k) array
+      ap (λ xs. item_step old.program.now old.page old.input.now c h (rest.declare xs) k) is ∙ ap (λ s. declare_item c h x (extent_of s) item.first more.now k) array
           ∙ ap (λ b. if b then silent (to c (rest.declare more.now ∷ k)) (clear_words h d x n) else stuck) (all_held (h.words d x) n (λ i. at.0.words d x i live)),
       subst (λ n. Shows frames (clear_words h d x n)) words (shows h at.1),
     ))

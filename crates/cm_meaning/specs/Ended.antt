@@ -1,5 +1,5 @@
 -- How a run ended, as the definitions say it, and the text of an end.
-use Rattle.std.specs.Prelude.{ℕ, ℤ, List, [], ◌∷◌, ◌++◌, codes, Some}
+use Rattle.std.specs.Prelude.{◌≡◌, ℕ, ℤ, List, [], ◌∷◌, ◌++◌, codes, Some}
 use Rattle.std.specs.Fmt.{signed_decimal}
 use Rattle.cm_syntax.specs.Trap as defined
 use Rattle.cm_meaning.specs.declared.ended.Limits as declared_limits
@@ -9,7 +9,7 @@ use Rattle.cm_meaning.specs.declared.ended.Ended.{Ended}
 use Rattle.cm_meaning.specs.declared.ended.Ended.TheVariants as ended
 use Rattle.cm_meaning.specs.End as end
 use Rattle.cm_meaning.specs.Meaning as meaning
-use Rattle.cm_meaning.specs.Output.{numbers_of}
+use Rattle.cm_meaning.specs.Output.{numbers_of, open_count}
 
 -- the limits
 abbrev pub limits_of : declared_limits.Limits → meaning.Limits
@@ -27,6 +27,12 @@ abbrev pub end_of : Ended → end.End
 end_of (ended.Done output value ticks) = end.Done (numbers_of output) (Some value) ticks
 end_of (ended.Trap output kind ticks) = end.Trapped (numbers_of output) (trap_of kind) ticks
 end_of ended.Spent = end.Spent
+
+-- every hole of the output is filled
+abbrev pub IsFilled : Ended → Type 0
+IsFilled (ended.Done output value ticks) = open_count output ≡ 0
+IsFilled (ended.Trap output kind ticks) = open_count output ≡ 0
+IsFilled ended.Spent = Unit {0}
 
 -- the numbers in decimal, one a line
 abbrev pub lines : List ℤ → List ℕ

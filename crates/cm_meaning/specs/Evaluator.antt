@@ -29,6 +29,7 @@ use Rattle.cm_meaning.specs.Measure.{cilk_frames}
 use Rattle.cm_meaning.specs.Typing.{TypedProgram}
 use Rattle.cm_meaning.specs.TypedState.{TypedState}
 use Rattle.cm_meaning.specs.Layout.{argument_of, calls_in, program_in, room_in, frames_words, FitFrames, IsLaidOut, Shows}
+use Rattle.cm_meaning.specs.Range.{max_stack_words}
 
 -- ---- what is still to do
 
@@ -142,7 +143,7 @@ pub record IsKept (ev : Evaluator) : Type 0 where
   pub fit : FitFrames ev.program.now
   -- what is left of the account, what the frames take of it, and a page for each call of a function marked `cilk`
   pub account : ev.account + (4 * frames_words ev.program.now (calls_in ev.frames) + ev.page * cilk_frames ev.program.now (calls_in ev.frames)) ≡ 4 * room_in ev.frames
-  pub room : room_in ev.frames ≤ 262144
+  pub room : room_in ev.frames ≤ max_stack_words
   pub page : ev.page ≤ 4096
   pub input : length ev.input.now ≤ 65536
 

@@ -1,12 +1,14 @@
 -- How the evaluator keeps the words of frames: one frame behind the other in one list, and in a frame one slot behind
 -- the other. A slice has its reference at the place of its first word, in a list of its own.
-use Rattle.std.specs.Prelude.{◌≡◌, ℕ, ◌+◌, ◌<◌, ◌≤◌, ◌==◌, if◌then◌else◌, ℤ, pos, Option, None, Some, List, [], ◌∷◌, ◌++◌, length, map, reverse, take, slice_get, slice_index}
+use Rattle.std.specs.Prelude.{◌≡◌, ℕ, ◌+◌, ◌<◌, ◌≤◌, ◌==◌, if◌then◌else◌, ℤ, pos, Option, None, Some, List, [], ◌∷◌, ◌++◌, length, map, reverse, take, slice_get, slice_index, option_map}
 use Rattle.cm_syntax.specs.declared.stmt.Slot.{Slot}
-use Rattle.cm_syntax.specs.declared.stmt.Slot.TheVariants as slot
+use Rattle.cm_syntax.specs.declared.stmt.Extent.{Extent}
+use Rattle.cm_syntax.specs.declared.stmt.Extent.TheVariants as extent
+use Rattle.cm_syntax.specs.Extent.{extent_of, extent_at}
 use Rattle.cm_syntax.specs.declared.stmt.Function.{Function}
 use Rattle.cm_syntax.specs.declared.stmt.Program.{Program}
 use Rattle.cm_syntax.specs.Fault.{parameter_slots}
-use Rattle.cm_syntax.specs.Frame.{slot_words, slots_words, frame_words}
+use Rattle.cm_syntax.specs.Frame.{slot_words, slots_words, frame_words, extent_words}
 use Rattle.cm_syntax.specs.Limit.{max_frame_words}
 use Rattle.cm_syntax.specs.Cell.{present}
 use Rattle.cm_syntax.specs.Stack as stack
@@ -18,6 +20,7 @@ use Rattle.cm_meaning.specs.declared.frames.Layout as layout
 use Rattle.cm_meaning.specs.declared.reference.Reference as declared
 use Rattle.cm_meaning.specs.declared.reference.Argument as argument
 use Rattle.cm_meaning.specs.declared.reference.Argument.TheVariants as arguments
+use Rattle.cm_meaning.specs.Range.{max_stack_words}
 
 -- ---- values
 
@@ -70,10 +73,14 @@ abbrev pub AreKnown : Program → (calls : List ℕ) → Type 0
 AreKnown program [] = Unit {0}
 AreKnown program (f ∷ calls) = (f < length program.functions) × AreKnown program calls
 
+-- the words that an extent takes
+abbrev pub taken_words : Option Extent → ℕ
+taken_words None = 0
+taken_words (Some kind) = extent_words kind
+
 -- the words that a slot takes
 abbrev pub place_words : Option Slot → ℕ
-place_words None = 0
-place_words (Some kind) = slot_words kind
+place_words kind = taken_words (option_map extent_of kind)
 
 -- ---- what is kept
 
@@ -102,7 +109,7 @@ pub record IsLaidOut (frames : Frames) : Type 0 where
   pub used : frames.used ≡ frames_words (program_in frames) (calls_in frames)
   pub within : frames_words (program_in frames) (calls_in frames) ≤ room_in frames
   pub paired : length frames.references.items ≡ room_in frames
-  pub few : room_in frames ≤ 262144
+  pub few : room_in frames ≤ max_stack_words
 
 -- a word that a slot of a live frame takes
 abbrev pub IsPlaceAt : Frames → (depth slot index : ℕ) → Type 0
@@ -118,12 +125,16 @@ IsWordAt frames depth x index =
 abbrev pub slot_in : Frames → (x : ℕ) → Option Slot
 slot_in frames x = slice_get (slots_at (program_in frames) (calls_in frames) (top (calls_in frames))) x
 
+-- what it has
+abbrev pub extent_in : Frames → (x : ℕ) → Option Extent
+extent_in frames x = option_map extent_of (slot_in frames x)
+
 -- What is present in the stack is what is kept. Nothing is said of words and references that are unset.
 pub record Shows (frames : Frames) (h : stack.Stack) : Type 0 where
   pub words : (depth x index : ℕ) (v : ℤ) → IsWordAt frames depth x index → h.words depth x index ≡ present v
       → slice_get frames.words.items (address (program_in frames) (calls_in frames) depth x index) ≡ Some v
   pub references : (depth x : ℕ) (r : stack.Reference) → depth < length (calls_in frames)
-      → slice_get (slots_at (program_in frames) (calls_in frames) depth) x ≡ Some slot.Slice → h.references depth x ≡ present r
+      → extent_at (slots_at (program_in frames) (calls_in frames) depth) x ≡ Some extent.Reference → h.references depth x ≡ present r
       → slice_get (map reference_of frames.references.items) (address (program_in frames) (calls_in frames) depth x 0) ≡ Some r
 
 -- the frames show a stack behind what was done to it
@@ -144,23 +155,35 @@ pub record IsSamePlace (old new : Frames) : Type 0 where
   pub room : room_in new ≡ room_in old
 
 -- the slot is an array
+abbrev pub HasWords : Option Extent → Type 0
+HasWords (Some (extent.Words words)) = Unit {0}
+HasWords _ = ⊥
+
+-- the same of a slot
 abbrev pub IsArray : Option Slot → Type 0
-IsArray (Some (slot.Array words)) = Unit {0}
-IsArray _ = ⊥
+IsArray kind = HasWords (option_map extent_of kind)
 
 -- A row of the running function: its scalar, its array, or what its slice refers to.
+abbrev pub IsReach : stack.Stack → (calls : List ℕ) → (x : ℕ) → Option Extent → stack.Reference → Type 0
+IsReach h calls x None r = ⊥
+IsReach h calls x (Some extent.Word) r = r ≡ scalar_slice (top calls) x
+IsReach h calls x (Some (extent.Words words)) r = r ≡ record { depth = top calls; slot = x; start = 0; length = words }
+IsReach h calls x (Some extent.Reference) r = (s : stack.Reference) → h.references (top calls) x ≡ present s → r ≡ s
+
+-- the same of a slot
 abbrev pub IsRowOf : stack.Stack → (calls : List ℕ) → (x : ℕ) → Option Slot → stack.Reference → Type 0
-IsRowOf h calls x None r = ⊥
-IsRowOf h calls x (Some slot.Scalar) r = r ≡ scalar_slice (top calls) x
-IsRowOf h calls x (Some (slot.Array words)) r = r ≡ record { depth = top calls; slot = x; start = 0; length = words }
-IsRowOf h calls x (Some slot.Slice) r = (s : stack.Reference) → h.references (top calls) x ≡ present s → r ≡ s
+IsRowOf h calls x kind r = IsReach h calls x (option_map extent_of kind) r
 
 -- the arguments in their order are of the kinds of these parameters
+abbrev pub AreOfExtents : List argument.Argument → List Extent → Type 0
+AreOfExtents [] [] = Unit {0}
+AreOfExtents (arguments.Word v ∷ more) (extent.Word ∷ parameters) = AreOfExtents more parameters
+AreOfExtents (arguments.Slice r ∷ more) (extent.Reference ∷ parameters) = AreOfExtents more parameters
+AreOfExtents _ _ = ⊥
+
+-- the same of the slots of parameters
 abbrev pub AreOfKinds : List argument.Argument → List Slot → Type 0
-AreOfKinds [] [] = Unit {0}
-AreOfKinds (arguments.Word v ∷ more) (slot.Scalar ∷ parameters) = AreOfKinds more parameters
-AreOfKinds (arguments.Slice r ∷ more) (slot.Slice ∷ parameters) = AreOfKinds more parameters
-AreOfKinds _ _ = ⊥
+AreOfKinds ws parameters = AreOfExtents ws (map extent_of parameters)
 
 -- A function that is there and takes these arguments: they are of the kinds of its parameters, which are its first slots.
 pub record TakesArguments (program : Program) (f : ℕ) (ws : List argument.Argument) : Type 0 where

@@ -130,6 +130,17 @@ writes_parts = program_of (int_function false (slot.Array 3 ∷ slot.Slice ∷ s
     ∷ statement.Split (mark 0) (number 1) (mark 1) (mark 2) (assign_element 2 1 None (number 7) ∷ assign_element 1 0 None (number 2) ∷ []) 0
     ∷ give_back (Joined op.Add (Joined op.Mul (element_of 0 2) (number 10)) (element_of 0 0)) ∷ []) ∷ [])
 
+-- `int main() { int a[2]; a[9] = 1 / 0; return 0; }`
+abbrev pub writes_outside : Program
+writes_outside = program_of (int_function false (slot.Array 2 ∷ []) [] (declare_array 0 2
+    ∷ assign_element 0 9 None division_by_zero ∷ give_back (number 0) ∷ []) ∷ [])
+
+-- `int main() { int a[2]; a[len(a)] = f(); return 0; } int f() { return 1; }`
+abbrev pub writes_at_length : Program
+writes_at_length = program_of (int_function false (slot.Array 2 ∷ []) [] (declare_array 0 2
+    ∷ statement.Assign (target.Index (mark 0) (expression.Len (mark 0))) None (called_value 1 []) ∷ give_back (number 0) ∷ [])
+    ∷ int_function false [] [] (give_back (number 1) ∷ []) ∷ [])
+
 -- `int f(int p[]) { p[0] = 10; return 1; }`
 abbrev pub sets_ten : Function ℕ
 sets_ten =
@@ -190,6 +201,17 @@ spawns_and_syncs = program_of (int_function true (slot.Scalar ∷ []) []
     (declare_scalar 0 ∷ statement.Spawn 0 (Some (mark 0)) (call_of 1 (arg.Value (number 4) ∷ []))
     ∷ statement.Sync 0 ∷ give_back (variable 0) ∷ [])
     ∷ int_function false (slot.Scalar ∷ []) (item_of 0 slot.Scalar ∷ []) (give_back (variable 0) ∷ []) ∷ [])
+
+-- the same without the `sync`: `cilk int main() { int x; x = spawn f(4); return x; } int f(int n) { return n; }`
+abbrev pub returns_awaited : Program
+returns_awaited = program_of (int_function true (slot.Scalar ∷ []) []
+    (declare_scalar 0 ∷ statement.Spawn 0 (Some (mark 0)) (call_of 1 (arg.Value (number 4) ∷ [])) ∷ give_back (variable 0) ∷ [])
+    ∷ int_function false (slot.Scalar ∷ []) (item_of 0 slot.Scalar ∷ []) (give_back (variable 0) ∷ []) ∷ [])
+
+-- `cilk int main() { return f(); } cilk int f() { return g(); } cilk int g() { return 0; }`
+abbrev pub three_cilk_calls : Program
+three_cilk_calls = program_of (int_function true [] [] (give_back (called_value 1 []) ∷ [])
+    ∷ int_function true [] [] (give_back (called_value 2 []) ∷ []) ∷ int_function true [] [] (give_back (number 0) ∷ []) ∷ [])
 
 -- `cilk void child() { print(2); } cilk int main() { print(1); spawn child(); print(3); sync; print(4); }`
 abbrev pub prints_in_order : Program

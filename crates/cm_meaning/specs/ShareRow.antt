@@ -37,9 +37,11 @@ before = write_word (push_frame empty_stack 0 []) 0 0 0 (pos 7)
 abbrev pub loan : (d s i : ℕ) → Loan
 loan d s i = if d == 0 && (s == 0 && i == 0) then to_read else unlent
 
+-- the stack that the child has: of x what is lent, and no reference
 abbrev pub lent : Stack
 lent = record { words = λ d s i. lent_cell (loan d s i) (before.words d s i); references = λ d s. absent }
 
+-- the stack that main keeps: of x what isn't lent, and its references
 abbrev pub kept : Stack
 kept = record { words = λ d s i. kept_cell (loan d s i) (before.words d s i); references = before.references }
 
@@ -47,12 +49,15 @@ kept = record { words = λ d s i. kept_cell (loan d s i) (before.words d s i); r
 abbrev pub given : List Argument
 given = slice (record { depth = 0; slot = 0; start = 0; length = 1 }) ∷ []
 
+-- the child that is called, entering with its argument
 abbrev pub called : Control
 called = control (0 ∷ []) 1000 (entering 1 given) []
 
+-- main, going on behind its spawn
 abbrev pub going_on : Control
 going_on = control (0 ∷ []) 1000 idle (body behind ∷ fall ∷ join ∷ end ∷ [])
 
+-- what main asks for: the child's call, from tick 10 on, on what it is lent
 abbrev pub asked : Ask
 asked = record { start = 10; call = called; lent = lent }
 

@@ -1,10 +1,13 @@
 -- Typed states of the serial elision: what is at hand and what is still to do fit the frames, and whatever is read there
 -- is set. In the elision every word of a live frame is held.
-use Rattle.std.specs.Prelude.{◌≡◌, ℕ, suc, ◌+◌, ◌≤◌, ◌<◌, ◌==◌, Bool, true, false, if◌then◌else◌, Option, None, Some, List, [], ◌∷◌, length, drop, slice_get, Contains, is_some}
+use Rattle.std.specs.Prelude.{◌≡◌, ℕ, suc, ◌+◌, ◌≤◌, ◌<◌, ◌==◌, Bool, true, false, if◌then◌else◌, Option, None, Some, List, [], ◌∷◌, length, drop, slice_get, Contains, is_some, option_map}
 use Rattle.cm_syntax.specs.declared.expr.Expr.{Expr}
 use Rattle.cm_syntax.specs.declared.expr.Call.{Row_of-Arg}
 use Rattle.cm_syntax.specs.declared.stmt.Slot.{Slot}
 use Rattle.cm_syntax.specs.declared.stmt.Slot.TheVariants as slot
+use Rattle.cm_syntax.specs.declared.stmt.Extent.{Extent}
+use Rattle.cm_syntax.specs.declared.stmt.Extent.TheVariants as extent
+use Rattle.cm_syntax.specs.Extent.{extent_of}
 use Rattle.cm_syntax.specs.declared.stmt.Function.{Function}
 use Rattle.cm_syntax.specs.declared.stmt.Stmt.{Stmt}
 use Rattle.cm_syntax.specs.declared.stmt.Program.{Program}
@@ -26,18 +29,27 @@ IsPresent unset = ⊥
 IsPresent (present v) = Unit {0}
 IsPresent (shared p v) = ⊥
 
--- the words of a variable that slices may refer to; a slice has none of its own
-abbrev pub row_words : Option Slot → ℕ
-row_words None = 0
-row_words (Some slot.Scalar) = 1
-row_words (Some (slot.Array words)) = words
-row_words (Some slot.Slice) = 0
+-- the words that slices may refer to; a reference has none of its own
+abbrev pub own_words : Option Extent → ℕ
+own_words None = 0
+own_words (Some extent.Word) = 1
+own_words (Some (extent.Words words)) = words
+own_words (Some extent.Reference) = 0
 
--- the variable of a slot was set: all of its words, or its reference
+-- those of a variable
+abbrev pub row_words : Option Slot → ℕ
+row_words kind = own_words (option_map extent_of kind)
+
+-- all of its words are there, or its reference
+abbrev pub IsThere : Stack → (depth x : ℕ) → Option Extent → Type 0
+IsThere h depth x None = ⊥
+IsThere h depth x (Some extent.Reference) = IsPresent (h.references depth x)
+IsThere h depth x (Some extent.Word) = (i : ℕ) → i < 1 → IsPresent (h.words depth x i)
+IsThere h depth x (Some (extent.Words words)) = (i : ℕ) → i < words → IsPresent (h.words depth x i)
+
+-- the variable of a slot was set
 abbrev pub IsSet : Stack → (depth x : ℕ) → Option Slot → Type 0
-IsSet h depth x None = ⊥
-IsSet h depth x (Some slot.Slice) = IsPresent (h.references depth x)
-IsSet h depth x kind = (i : ℕ) → i < row_words kind → IsPresent (h.words depth x i)
+IsSet h depth x kind = IsThere h depth x (option_map extent_of kind)
 
 abbrev pub AreSet : Stack → (depth : ℕ) → List Slot → (set : List ℕ) → Type 0
 AreSet h depth slots set = (x : ℕ) → Contains set x → IsSet h depth x (slice_get slots x)
@@ -85,10 +97,14 @@ module _ (program : Program) where
       pub set : (i : ℕ) → r.start ≤ i → i < r.start + r.length → IsPresent (h.words r.depth r.slot i)
 
     -- an argument fits its parameter
+    abbrev pub FitsExtent : (calls : List ℕ) → Argument → Option Extent → Type 0
+    FitsExtent calls (word v) (Some extent.Word) = Unit {0}
+    FitsExtent calls (slice r) (Some extent.Reference) = IsReference calls r
+    FitsExtent calls _ _ = ⊥
+
+    -- the same of a parameter's slot
     abbrev pub FitsParameter : (calls : List ℕ) → Argument → Option Slot → Type 0
-    FitsParameter calls (word v) (Some slot.Scalar) = Unit {0}
-    FitsParameter calls (slice r) (Some slot.Slice) = IsReference calls r
-    FitsParameter calls _ _ = ⊥
+    FitsParameter calls w kind = FitsExtent calls w (option_map extent_of kind)
 
     -- the arguments, which stand last first, fit the first of these parameters
     abbrev pub FitParameters : (calls : List ℕ) → List Argument → (parameters : List Slot) → Type 0
@@ -105,9 +121,13 @@ HasNoStore (join ∷ k) = Unit {0}
 HasNoStore (_ ∷ k) = HasNoStore k
 
 -- the words of a row: of the scalar or the array, or of what the slice refers to
+abbrev pub extent_length : Stack → (depth a : ℕ) → Option Extent → ℕ
+extent_length h depth a (Some extent.Reference) = reference_length (h.references depth a)
+extent_length h depth a kind = own_words kind
+
+-- the same of a variable's slot
 abbrev pub row_length : Stack → (depth a : ℕ) → Option Slot → ℕ
-row_length h depth a (Some slot.Slice) = reference_length (h.references depth a)
-row_length h depth a kind = row_words kind
+row_length h depth a kind = extent_length h depth a (option_map extent_of kind)
 
 -- the destination of a spawn, and where a value that came back goes: a scalar of the frame at this depth
 abbrev pub FitsDestination : List Slot → Option ℕ → Type 0

@@ -3,9 +3,10 @@ ghost use Rattle.std.specs.Prelude.{◌≡◌, ◌≤◌, ◌*◌, IfOk, IfSome,
 ghost use Rattle.cm_syntax.specs.Fault.{IsSoundProgram};
 ghost use Rattle.cm_syntax.specs.Lending.{IsAccepted};
 ghost use Rattle.cm_meaning.specs.End.{End};
-ghost use Rattle.cm_meaning.specs.Ended.{end_of, limits_of};
+ghost use Rattle.cm_meaning.specs.Ended.{end_of, limits_of, IsFilled};
 ghost use Rattle.cm_meaning.specs.Meaning.{SerialEnd, ForkEnd};
 ghost use Rattle.cm_meaning.specs.Measure.{IsSerialPages, IsCilkDepth, FitPages, FitDepth, cilk_frames, pages_of};
+ghost use Rattle.cm_meaning.specs.Output.{open_count};
 ghost use Rattle.cm_meaning.specs.Range.{HasRanges, max_input_numbers};
 ghost use Rattle.cm_meaning.specs.Layout.{calls_in, room_in};
 ghost use Rattle.cm_meaning.specs.Evaluator.{IsKept};
@@ -41,7 +42,7 @@ struct Finished {
 }
 
 /// The end of the serial elision of a program with this input and these limits; fork and join allow it, and no other
-/// end. Input and limits have to be in their ranges:
+/// end. Its output has no open hole. Input and limits have to be in their ranges:
 /// ticks from 1 to 100,000,000, stack from 16 to 256 pages, a page of 256, 1024 or 4096 bytes, and at most 65,536
 /// numbers. `Memory` is want of memory. The time grows with the ticks that are taken, and between two ticks with the
 /// text of a function, its arrays and what a `return` leaves; the memory with the bytes of the stack, the calls that are
@@ -57,6 +58,7 @@ pub fn elide(
     ensures serial { IfOk result (λ ended. SerialEnd program.now input.now (limits_of limits.now) (end_of ended)) }
     ensures fork { IfOk result (λ ended. ForkEnd program.now input.now (limits_of limits.now) (end_of ended)) }
     ensures only { IfOk result (λ ended. (e : End) → ForkEnd program.now input.now (limits_of limits.now) e → e ≡ end_of ended) }
+    ensures filled { IfOk result IsFilled }
 {
     let finished = run(alloc, program, input, limits)?;
     Ok(finished.ended)
@@ -112,6 +114,7 @@ fn run(alloc: Global, program: &Checked, input: &[i32], limits: &Limits) -> Resu
     ensures most { IfOk result (λ finished. HasMost program.now input.now (limits_of limits.now) finished.ended finished.most) }
     ensures sound { IfOk result (λ finished. IsSoundProgram program.now) }
     ensures accepted { IfOk result (λ finished. IsAccepted program.now) }
+    ensures filled { IfOk result (λ finished. IsFilled finished.ended) }
 {
     let mut evaluator = Evaluator::new(alloc, program.program(), input, limits)?;
     let mut output = Output::new(alloc);
@@ -190,7 +193,8 @@ impl<'a> Evaluator<'a> {
     /// Goes on to the next tick, or to the end, and notes what is printed and what the live calls take.
     fn until_tick(&mut self, output: &mut Output, most: &mut Most) -> Result<Outcome, Memory>
         requires { IsUnderWay self.old output.old most.old }
-        ensures { IfOk result (λ outcome. StopsFrom self.old output.old most.old outcome self.new output.new most.new) }
+        ensures stops { IfOk result (λ outcome. StopsFrom self.old output.old most.old outcome self.new output.new most.new) }
+        ensures open { IfOk result (λ outcome. open_count output.new ≡ open_count output.old) }
     {
         'steps: loop {
             let outcome = self.step()?;

@@ -1,18 +1,19 @@
 //! The frames of the live calls, with their words in one list that is taken once: a call moves nothing.
 ghost use Rattle.std.specs.Prelude.{◌≡◌, ◌+◌, ◌*◌, ◌∷◌, ◌≤◌, ◌<◌, ◌^◌, ℕ, ℤ, List, length, map, reverse, IfOk, OnOk, IsSome, Some, slice_get};
-ghost use Rattle.cm_syntax.specs.declared.stmt.Slot.TheVariants as slot_kind;
+ghost use Rattle.cm_syntax.specs.declared.stmt.Extent.TheVariants as extent;
 ghost use Rattle.cm_syntax.specs.declared.stmt.Function.{Function};
-ghost use Rattle.cm_syntax.specs.Frame.{slot_words, slots_words, frame_words as words_of_frame};
+ghost use Rattle.cm_syntax.specs.Frame.{slots_words, frame_words as words_of_frame};
 ghost use Rattle.cm_syntax.specs.Limit.{max_frame_words};
 ghost use Rattle.cm_syntax.specs.Cell.{present};
 ghost use Rattle.cm_syntax.specs.Stack.{Stack, write_word, clear_words, write_parts, push_frame, pop_frame};
 ghost use Rattle.cm_syntax.specs.Step.{top};
 ghost use Rattle.cm_meaning.specs.Measure.{frame_bytes_in};
 ghost use Rattle.cm_meaning.specs.TypedState.{slots_at, row_words};
-ghost use Rattle.cm_meaning.specs.Layout.{reference_of, argument_of, address, frames_words, program_in, calls_in, room_in, slot_in, layout_of, offsets_from, place_words, FitFrames, IsLaidOut, IsPlaceAt, IsWordAt, Shows, ShowsAfter, IsNew, IsSamePlace, IsArray, IsRowOf, TakesArguments, ArePlaces, ArePut, AreCleared};
+ghost use Rattle.cm_meaning.specs.Layout.{reference_of, argument_of, address, frames_words, program_in, calls_in, room_in, slot_in, extent_in, layout_of, offsets_from, place_words, FitFrames, IsLaidOut, IsPlaceAt, IsWordAt, Shows, ShowsAfter, IsNew, IsSamePlace, IsArray, IsRowOf, TakesArguments, ArePlaces, ArePut, AreCleared};
+ghost use Rattle.cm_meaning.specs.Range.{max_stack_words};
 
 use crate::reference::{Argument, Reference};
-use cm_syntax::{Function, Program, Slot, frame_words};
+use cm_syntax::{Extent, Function, Program, Slot, frame_words, slot_words};
 use cm_text::{List, Memory};
 use std::alloc::Global;
 
@@ -82,20 +83,9 @@ fn offsets(alloc: Global, slots: &[Slot]) -> Result<List<u32>, Memory>
     let mut before: u32 = 0;
     for slot in slots {
         offsets.push(before)?;
-        before += words_of(*slot);
+        before += slot_words(*slot);
     }
     Ok(offsets)
-}
-
-/// The words of a slot.
-fn words_of(slot: Slot) -> u32
-    ensures { result ≡ slot_words slot }
-{
-    match slot {
-        Slot::Scalar => 1,
-        Slot::Array(words) => words,
-        Slot::Slice => 2,
-    }
 }
 
 /// Puts the arguments into the first slots of the frame that begins at `base`.
@@ -108,7 +98,7 @@ fn put_arguments(
 )
     requires places { ArePlaces offsets.now base (length arguments.now) (length words.old.items) }
     requires paired { length references.old.items ≡ length words.old.items }
-    requires few { length words.old.items ≤ 262144 }
+    requires few { length words.old.items ≤ max_stack_words }
     ensures { ArePut offsets.now base (length arguments.now) arguments.now words.old.items words.new.items
         references.old.items references.new.items }
 {
@@ -124,7 +114,7 @@ fn put_arguments(
 /// Sets so many words to 0.
 fn clear_from(words: &mut Vec<i32>, start: u32, count: u32)
     requires within { start + count ≤ length words.old.items }
-    requires few { length words.old.items ≤ 262144 }
+    requires few { length words.old.items ≤ max_stack_words }
     ensures { AreCleared start count words.old.items words.new.items }
 {
     for index in 0..count {
@@ -137,7 +127,7 @@ impl<'a> Frames<'a> {
     /// `Memory` is want of memory.
     pub(crate) fn new(alloc: Global, program: &'a Program, room: u32) -> Result<Frames<'a>, Memory>
         requires fits { FitFrames program.now }
-        requires few { room ≤ 262144 }
+        requires few { room ≤ max_stack_words }
         ensures { IfOk result (λ frames. IsNew program.now room frames) }
     {
         let layouts = layouts_of(alloc, program.functions.items())?;
@@ -289,25 +279,25 @@ impl<'a> Frames<'a> {
         ensures place { IsSamePlace self.old self.new }
         ensures shows { ShowsAfter self.old self.new
             (λ h. clear_words h (top (calls_in self.old)) slot (row_words (slot_in self.old slot))) }
-        ensures shows_array { (h : Stack) (n : ℕ) → slot_in self.old slot ≡ Some (slot_kind.Array n) → Shows self.old h
+        ensures shows_array { (h : Stack) (n : ℕ) → extent_in self.old slot ≡ Some (extent.Words n) → Shows self.old h
             → Shows self.new (clear_words h (top (calls_in self.old)) slot n) }
     {
         let start = self.start_of(slot);
-        match self.kind_of(slot) {
-            Slot::Array(count) => clear_from(&mut self.words, start, count),
+        match self.extent(slot) {
+            Extent::Words(count) => clear_from(&mut self.words, start, count),
             _ => unreachable!(),
         }
     }
 
-    /// What a slot of the running function is.
-    fn kind_of(&self, slot: u32) -> Slot
+    /// What a slot of the running function has.
+    fn extent(&self, slot: u32) -> Extent
         requires laid { IsLaidOut self.now }
         requires some { 1 ≤ length (calls_in self.now) }
         requires there { IsSome (slot_in self.now slot) }
-        ensures { slot_in self.now slot ≡ Some result }
+        ensures { extent_in self.now slot ≡ Some result }
     {
         let function = &self.program.functions.items()[self.function() as usize];
-        function.slots.items()[slot as usize]
+        function.slots.items()[slot as usize].extent()
     }
 
     /// Where the words of a slot of the running function begin.
@@ -329,10 +319,10 @@ impl<'a> Frames<'a> {
         ensures { (h : Stack) → Shows self.now h
             → IsRowOf h (calls_in self.now) slot (slot_in self.now slot) (reference_of result) }
     {
-        let words = match self.kind_of(slot) {
-            Slot::Scalar => 1,
-            Slot::Array(words) => words,
-            Slot::Slice => return self.references[self.start_of(slot) as usize],
+        let words = match self.extent(slot) {
+            Extent::Word => 1,
+            Extent::Words(words) => words,
+            Extent::Reference => return self.references[self.start_of(slot) as usize],
         };
         Reference {
             depth: self.depth() - 1,
@@ -346,8 +336,8 @@ impl<'a> Frames<'a> {
     pub(crate) fn set_parts(&mut self, left: u32, right: u32, whole: Reference, count: u32)
         requires laid { IsLaidOut self.old }
         requires some { 1 ≤ length (calls_in self.old) }
-        requires left { slot_in self.old left ≡ Some slot_kind.Slice }
-        requires right { slot_in self.old right ≡ Some slot_kind.Slice }
+        requires left { extent_in self.old left ≡ Some extent.Reference }
+        requires right { extent_in self.old right ≡ Some extent.Reference }
         requires count { count ≤ whole.length }
         requires fits { whole.start + whole.length < 2 ^ 32 }
         ensures laid { IsLaidOut self.new }

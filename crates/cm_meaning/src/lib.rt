@@ -37,8 +37,9 @@ pub use law::{
 pub use output::Output;
 pub use row::{
     calls_to_the_account, cilk_calls_take_pages, early_stops, first_child_decides,
-    joins_count_once, left_operand_first, loop_ticks, measures_of_runs, one_trap_of_each_kind,
-    operators_at_corners, prints_in_the_order_of_spawns, prints_take_ticks, spawns_as_calls,
-    splits_at_ends, sums_and_products, traps_beside_loops, traps_hide_later_prints,
-    unset_words_unread, updates_read_last,
+    index_before_value, joins_count_once, left_operand_first, loop_ticks, measures_of_runs,
+    one_trap_of_each_kind, operators_at_corners, prints_in_the_order_of_spawns, prints_take_ticks,
+    readers_share_a_word, returned_before_waiting, spawns_as_calls, splits_at_ends,
+    sums_and_products, traps_beside_loops, traps_hide_later_prints, unset_words_unread,
+    updates_read_last,
 };

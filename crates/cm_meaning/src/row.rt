@@ -12,7 +12,7 @@ ghost use Rattle.cm_syntax.specs.Cell.{value_in, may_write};
 ghost use Rattle.cm_syntax.specs.Stack.{Stack, StackSum, empty_stack};
 ghost use Rattle.cm_syntax.specs.Step.{write_step};
 ghost use Rattle.cm_meaning.specs.End.{End, Done, Trapped, Spent};
-ghost use Rattle.cm_meaning.specs.Meaning.{Fork, Goes, SerialEnd, GetsStuck, ForkEnd, first_control};
+ghost use Rattle.cm_meaning.specs.Meaning.{Fork, Goes, SerialEnd, GetsStuck, ForkEnd, IsNeverStuck, begun, main_ask, first_control};
 ghost use Rattle.cm_meaning.specs.Measure.{IsSerialPages, IsCilkDepth};
 ghost use Rattle.cm_meaning.specs.Row as row;
 ghost use Rattle.cm_meaning.specs.ShareRow as share;
@@ -89,6 +89,13 @@ pub fn splits_at_ends()
     ensures parts { SerialEnd row.writes_parts [] (row.with_ticks 1) (Done [] (Some (pos 72)) 1) }
 {}
 
+/// An index is tested before the value is evaluated: the trap is `index` where the value would trap `divide`, and the
+/// call that gives the value doesn't begin.
+pub fn index_before_value()
+    ensures trap { SerialEnd row.writes_outside [] (row.with_ticks 1) (Trapped [] kind.Index 1) }
+    ensures no_call { SerialEnd row.writes_at_length [] (row.with_ticks 2) (Trapped [] kind.Index 1) }
+{}
+
 /// An update reads the old word behind the value: `a[0] += f(a)` adds to what f left in `a[0]`.
 pub fn updates_read_last()
     ensures { SerialEnd row.updates_element [] (row.with_ticks 2) (Done [] (Some (pos 11)) 2) }
@@ -152,6 +159,13 @@ pub fn joins_count_once()
     ensures serial { SerialEnd row.spawns_and_syncs [] (row.with_ticks 2) (Done [] (Some (pos 4)) 2) }
 {}
 
+/// `return x;` evaluates x before it waits for the children: where x is lent to one of them the piece is stuck, which the
+/// lending check excludes. The elision, in which a spawn is a call, has a value.
+pub fn returned_before_waiting()
+    ensures stuck { IsNeverStuck row.returns_awaited 256 [] (begun (main_ask row.returns_awaited (row.with_ticks 2))) → ⊥ }
+    ensures serial { SerialEnd row.returns_awaited [] (row.with_ticks 2) (Done [] (Some (pos 4)) 2) }
+{}
+
 /// What a child prints stands where it was spawned, before what its parent prints behind the spawn, and never in the
 /// order of finishing; six ticks are enough. The elision says the same.
 pub fn prints_in_the_order_of_spawns()
@@ -173,11 +187,13 @@ pub fn traps_hide_later_prints()
     ensures serial { SerialEnd row.traps_behind_print [] (row.with_ticks 9) (Trapped (pos 7 ∷ []) kind.Index 3) }
 {}
 
-/// Five frames of 16 bytes take two pages of 64 bytes; the only live call of a function marked `cilk` is main.
+/// Five frames of 16 bytes take two pages of 64 bytes. Of functions marked `cilk` none is live there; main alone where a
+/// call that it spawns isn't marked; and three where each calls the next.
 pub fn measures_of_runs()
     ensures pages { IsSerialPages (row.deep_calls 3) [] row.two_pages 2 }
     ensures no_cilk { IsCilkDepth (row.deep_calls 3) [] row.two_pages 0 }
     ensures cilk { IsCilkDepth row.spawns_and_syncs [] (row.with_ticks 2) 1 }
+    ensures nested { IsCilkDepth row.three_cilk_calls [] (row.with_ticks 3) 3 }
 {}
 
 /// A call of a function marked `cilk` takes a page more than its frame: 80 bytes of two pages of 64, and one page of

@@ -1,10 +1,11 @@
 use Rattle.std.proofs.Common.{◌++◌, ◌-◌, min, length, ap, sym, ◌∙◌}
 use Rattle.std.proofs.lemmas.List.{drop_all}
 use Rattle.std.specs.String.{string_bytes}
+use Rattle.cm_syntax.proofs.FrameLaw.{next}
 use Rattle.cm_meaning.specs.Output.{numbers_of}
 use Rattle.cm_meaning.specs.Printed.{laid}
 use Rattle.cm_meaning.specs.Ended.{lines}
-use Rattle.cm_meaning.proofs.LinesLaw.{lines_filled, numbers_alone, turn, no_longer, next}
+use Rattle.cm_meaning.proofs.LinesLaw.{lines_filled, numbers_alone, turn, no_longer}
 use Rattle.cm_meaning.proofs.ended_text.+lines.Goals as goal
 
 pub put_hole-returns-in-Filled : goal.put_hole-returns-in-Filled
