@@ -1,18 +1,15 @@
 -- What the build of a program is.
-use Rattle.std.specs.Prelude.{◌≡◌, ℕ, ◌⊎◌}
+use Rattle.std.specs.Prelude.{◌≡◌, ℕ}
 use Rattle.cm_isa.specs.Address.{AreWordsOf}
 use Rattle.cm_syntax.specs.declared.stmt.Program.{Program}
 use Rattle.cm_gen.specs.declared.form.Form.{Form}
 use Rattle.cm_gen.specs.declared.build.Build.{Build}
+use Rattle.cm_gen.specs.declared.build.TheConstants.{MAX_IMAGE_WORDS}
 use Rattle.cm_gen.specs.Image as code
-
--- the bytes that a page may have
-abbrev pub IsPage : (page : ℕ) → Type 0
-IsPage page = (page ≡ 256) ⊎ (page ≡ 1024) ⊎ (page ≡ 4096)
 
 -- the most words of an image
 abbrev pub max_image_words : ℕ
-max_image_words = 200000
+max_image_words = MAX_IMAGE_WORDS
 
 -- the build of a program in this form and with pages of so many bytes
 pub record IsBuild (program : Program) (form : Form) (page : ℕ) (build : Build) : Type 0 where

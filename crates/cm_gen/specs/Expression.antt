@@ -1,6 +1,6 @@
 -- The code of expressions. Its value goes to VALUE; d temporaries are in use before. What stands behind the left operand
 -- of an operator, behind an index and so on has a name of its own, since a rest may begin there.
-use Rattle.std.specs.Prelude.{ℕ, zero, suc, ◌+◌, ◌*◌, ℤ, pos, ◌+ℤ◌, if◌then◌else◌, Option, None, Some, List, [], ◌∷◌, ◌++◌, length, slice_get}
+use Rattle.std.specs.Prelude.{ℕ, zero, suc, ◌+◌, ◌*◌, ℤ, pos, ◌+ℤ◌, if◌then◌else◌, Option, None, Some, List, [], ◌∷◌, ◌++◌, length}
 use Rattle.cm_isa.specs.Bits.{minus}
 use Rattle.cm_isa.specs.Operation.{Operation}
 use Rattle.cm_isa.specs.declared.convention.TheConstants as reg
@@ -11,7 +11,9 @@ use Rattle.cm_syntax.specs.declared.expr.Expr.TheVariants as expression
 use Rattle.cm_syntax.specs.declared.expr.Arg.TheVariants as argument
 use Rattle.cm_syntax.specs.declared.expr.Call.{Row_of-Arg, end_of-Arg, more_of-Arg}
 use Rattle.cm_syntax.specs.declared.stmt.Slot.{Slot}
-use Rattle.cm_syntax.specs.declared.stmt.Slot.TheVariants as slot
+use Rattle.cm_syntax.specs.declared.stmt.Extent.{Extent}
+use Rattle.cm_syntax.specs.declared.stmt.Extent.TheVariants as extent
+use Rattle.cm_syntax.specs.Extent.{extent_at}
 use Rattle.cm_syntax.specs.Shape.{Joined, Prefixed, Element, InputAt}
 use Rattle.cm_syntax.specs.Frame.{slot_words, slots_words}
 use Rattle.cm_gen.specs.Assembler.{lui, addi, add, sub, mul, div, rem, and, or, xor, xori, sll, sra, slli, slt, sltu, sltiu, lw, jal, bne, beq, bltu}
@@ -102,24 +104,26 @@ apply_code slots o d = load_slot reg.LEFT (temporary_offset slots d) ++ operator
 
 -- LEFT takes the address of a slot's first word and HELP the number of its words; of a slice, of the words that it
 -- refers to. A mention of a slot that isn't there has no code, and no sound program has one.
-abbrev pub base_in : Option Slot → (offset : ℤ) → List Operation
-base_in None o = []
-base_in (Some slot.Scalar) o = load_address reg.LEFT o ++ load_number reg.HELP (pos 1)
-base_in (Some (slot.Array n)) o = load_address reg.LEFT o ++ load_number reg.HELP (pos n)
-base_in (Some slot.Slice) o = load_slot reg.LEFT o ++ load_slot reg.HELP (o +ℤ pos 4)
+abbrev pub base_for : Option Extent → (offset : ℤ) → List Operation
+base_for None o = []
+base_for (Some extent.Word) o = load_address reg.LEFT o ++ load_number reg.HELP (pos 1)
+base_for (Some (extent.Words n)) o = load_address reg.LEFT o ++ load_number reg.HELP (pos n)
+base_for (Some extent.Reference) o = load_slot reg.LEFT o ++ load_slot reg.HELP (o +ℤ pos 4)
 
+-- the same by the slot's number
 abbrev pub base : List Slot → (a : ℕ) → List Operation
-base slots a = base_in (slice_get slots a) (slot_offset slots a)
+base slots a = base_for (extent_at slots a) (slot_offset slots a)
 
 -- VALUE takes the number of words
-abbrev pub length_in : Option Slot → (offset : ℤ) → List Operation
-length_in None o = []
-length_in (Some slot.Scalar) o = load_number reg.VALUE (pos 1)
-length_in (Some (slot.Array n)) o = load_number reg.VALUE (pos n)
-length_in (Some slot.Slice) o = load_slot reg.VALUE (o +ℤ pos 4)
+abbrev pub length_for : Option Extent → (offset : ℤ) → List Operation
+length_for None o = []
+length_for (Some extent.Word) o = load_number reg.VALUE (pos 1)
+length_for (Some (extent.Words n)) o = load_number reg.VALUE (pos n)
+length_for (Some extent.Reference) o = load_slot reg.VALUE (o +ℤ pos 4)
 
+-- the same by the slot's number
 abbrev pub length_code : List Slot → (a : ℕ) → List Operation
-length_code slots a = length_in (slice_get slots a) (slot_offset slots a)
+length_code slots a = length_for (extent_at slots a) (slot_offset slots a)
 
 -- behind an index in VALUE: it becomes the address of the element; where there is none, service 8 ends the run with the
 -- trap `index`

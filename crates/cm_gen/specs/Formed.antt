@@ -15,7 +15,7 @@ use Rattle.cm_syntax.specs.Rest.{Purpose, called, spawned, Item, evaluate, right
 use Rattle.cm_syntax.specs.Step.{Move, inside}
 use Rattle.cm_meaning.specs.Activation.{IsSettled}
 use Rattle.cm_meaning.specs.TypedState.{TypedState}
-use Rattle.cm_gen.specs.Build.{IsPage}
+use Rattle.cm_maps.specs.Pages.{IsPage}
 use Rattle.cm_gen.specs.Standing.{used, arguments_size, slots_here}
 use Rattle.cm_gen.specs.FrameWord.{words_in, taken}
 use Rattle.cm_gen.specs.Literal.{LiteralsFit, RowLiteralsFit, OptionLiteralsFit, ItemsLiteralsFit, StatementLiteralsFit, SequenceLiteralsFit, BodyLiteralsFit}

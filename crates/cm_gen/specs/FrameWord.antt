@@ -1,13 +1,15 @@
 -- The words of frames. A frame's words are numbered from 1 downwards from its address: the return address, the caller's
 -- frame pointer, the slots, the temporaries. Word n of a frame is 4 n bytes below its address.
-use Rattle.std.specs.Prelude.{◌≡◌, ℕ, zero, suc, ◌+◌, ◌*◌, ◌-◌, ◌%◌, ◌<◌, ◌≤◌, ◌==◌, ◌⊎◌, ⊤, true, if◌then◌else◌, ℤ, Option, None, Some, FitsSigned, List, [], ◌∷◌, length, slice_get}
+use Rattle.std.specs.Prelude.{◌≡◌, ℕ, zero, suc, ◌+◌, ◌*◌, ◌-◌, ◌%◌, ◌<◌, ◌≤◌, ◌==◌, ◌⊎◌, ⊤, true, if◌then◌else◌, ℤ, Option, None, Some, FitsSigned, List, [], ◌∷◌, length, slice_get, option_map}
 use Rattle.std.specs.Int.{w32, cast_unsigned}
 use Rattle.cm_isa.specs.Machine.{Mapped, writable, IsWritable, Stored, reads}
 use Rattle.cm_syntax.specs.declared.stmt.Slot.{Slot}
-use Rattle.cm_syntax.specs.declared.stmt.Slot.TheVariants as slot
+use Rattle.cm_syntax.specs.declared.stmt.Extent.{Extent}
+use Rattle.cm_syntax.specs.declared.stmt.Extent.TheVariants as extent
+use Rattle.cm_syntax.specs.Extent.{extent_of}
 use Rattle.cm_syntax.specs.declared.stmt.Function.{Function}
 use Rattle.cm_syntax.specs.declared.stmt.Program.{Program}
-use Rattle.cm_syntax.specs.Frame.{slot_words, slots_words, frame_words}
+use Rattle.cm_syntax.specs.Frame.{slots_words, frame_words, extent_words}
 use Rattle.cm_syntax.specs.Cell.{Cell, absent, unset, present, shared, value_in, map_cell}
 use Rattle.cm_syntax.specs.Stack.{Reference, Stack, Argument, word, slice}
 use Rattle.cm_syntax.specs.Rest.{Item, apply, arguments, pass, store, end}
@@ -20,9 +22,13 @@ use Rattle.cm_gen.specs.Standing.{Frame, used, arguments_size, slots_here}
 -- ---- numbers of words
 
 -- the words of a slot that may not be there
+abbrev pub words_for : Option Extent → ℕ
+words_for None = 0
+words_for (Some kind) = extent_words kind
+
+-- those of a slot
 abbrev pub words_in_slot : Option Slot → ℕ
-words_in_slot None = 0
-words_in_slot (Some kind) = slot_words kind
+words_in_slot kind = words_for (option_map extent_of kind)
 
 -- the index is of a word of the slot
 abbrev pub IsPlace : List Slot → (s i : ℕ) → Type 0
@@ -118,10 +124,14 @@ module _ (program : Program) (page : ℕ) where
   abbrev pub value_cell : Cell ℤ → Cell ℕ
   value_cell c = map_cell bits c
 
-  -- what stands in a word of a slot, by the slot's kind
+  -- what stands in a word of a slot, by what the slot has
+  abbrev pub cell_for : Option Extent → (calls : List ℕ) → List Frame → Stack → (d s i : ℕ) → Cell ℕ
+  cell_for (Some extent.Reference) calls frames h d s i = slice_cell calls frames (h.references d s) i
+  cell_for _ calls frames h d s i = value_cell (h.words d s i)
+
+  -- the same of a slot
   abbrev pub cell_in : Option Slot → (calls : List ℕ) → List Frame → Stack → (d s i : ℕ) → Cell ℕ
-  cell_in (Some slot.Slice) calls frames h d s i = slice_cell calls frames (h.references d s) i
-  cell_in _ calls frames h d s i = value_cell (h.words d s i)
+  cell_in kind calls frames h d s i = cell_for (option_map extent_of kind) calls frames h d s i
 
   abbrev pub cell_at : (calls : List ℕ) → List Frame → Stack → (d s i : ℕ) → Cell ℕ
   cell_at calls frames h d s i = cell_in (slice_get (slots_at program calls d) s) calls frames h d s i
@@ -139,11 +149,15 @@ module _ (program : Program) (page : ℕ) where
       → HasCell (cell_at calls frames h d s i) (w (word_address frames d (word_number (slots_at program calls d) s i)))
 
   -- the words of a slot as a reference: an array's own, or what the slice refers to
+  abbrev pub row_for : Option Extent → (calls : List ℕ) → Stack → (a : ℕ) → Cell Reference
+  row_for None calls h a = absent
+  row_for (Some extent.Word) calls h a = present (scalar_slice (top calls) a)
+  row_for (Some (extent.Words n)) calls h a = present (record { depth = top calls; slot = a; start = 0; length = n })
+  row_for (Some extent.Reference) calls h a = h.references (top calls) a
+
+  -- the same of a slot
   abbrev pub row_in : Option Slot → (calls : List ℕ) → Stack → (a : ℕ) → Cell Reference
-  row_in None calls h a = absent
-  row_in (Some slot.Scalar) calls h a = present (scalar_slice (top calls) a)
-  row_in (Some (slot.Array n)) calls h a = present (record { depth = top calls; slot = a; start = 0; length = n })
-  row_in (Some slot.Slice) calls h a = h.references (top calls) a
+  row_in kind calls h a = row_for (option_map extent_of kind) calls h a
 
   -- of a slot of the running function
   abbrev pub row_of : (calls : List ℕ) → Stack → (a : ℕ) → Cell Reference

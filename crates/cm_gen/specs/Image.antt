@@ -4,7 +4,9 @@ use Rattle.std.specs.Prelude.{◌≡◌, ℕ, ◌+◌, ◌*◌, ◌^◌, ◌%◌
 use Rattle.cm_isa.specs.Operation.{Operation}
 use Rattle.cm_isa.specs.declared.convention.TheConstants as reg
 use Rattle.cm_syntax.specs.declared.stmt.Slot.{Slot}
-use Rattle.cm_syntax.specs.declared.stmt.Slot.TheVariants as slot
+use Rattle.cm_syntax.specs.declared.stmt.Extent.{Extent}
+use Rattle.cm_syntax.specs.declared.stmt.Extent.TheVariants as extent
+use Rattle.cm_syntax.specs.Extent.{extent_of}
 use Rattle.cm_syntax.specs.declared.stmt.Item as items
 use Rattle.cm_syntax.specs.declared.stmt.Function.{Function}
 use Rattle.cm_syntax.specs.declared.stmt.Program.{Program}
@@ -23,10 +25,14 @@ use Rattle.cm_gen.specs.Statement.{sync_code, body_code}
 -- ---- functions
 
 -- the words of a parameter, which has slot x, go from the registers from r on into the slot; no parameter is an array
+abbrev pub parameter_for : List Slot → (x r : ℕ) → Extent → List Operation
+parameter_for slots x r extent.Word = store_slot r (slot_offset slots x)
+parameter_for slots x r (extent.Words n) = []
+parameter_for slots x r extent.Reference = store_slot r (slot_offset slots x) ++ store_slot (r + 1) (slot_offset slots x +ℤ pos 4)
+
+-- the same by the parameter's slot
 abbrev pub parameter_code : List Slot → (x r : ℕ) → Slot → List Operation
-parameter_code slots x r slot.Scalar = store_slot r (slot_offset slots x)
-parameter_code slots x r (slot.Array n) = []
-parameter_code slots x r slot.Slice = store_slot r (slot_offset slots x) ++ store_slot (r + 1) (slot_offset slots x +ℤ pos 4)
+parameter_code slots x r kind = parameter_for slots x r (extent_of kind)
 
 -- those of all parameters, from slot x and register r on
 abbrev pub parameters_code : List Slot → (x r : ℕ) → List (items.Item ℕ) → List Operation

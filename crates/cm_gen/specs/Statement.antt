@@ -9,7 +9,9 @@ use Rattle.cm_syntax.specs.declared.expr.Op.{Op}
 use Rattle.cm_syntax.specs.declared.expr.Expr.{Expr}
 use Rattle.cm_syntax.specs.declared.expr.Expr.TheVariants as expression
 use Rattle.cm_syntax.specs.declared.stmt.Slot.{Slot}
-use Rattle.cm_syntax.specs.declared.stmt.Slot.TheVariants as slot
+use Rattle.cm_syntax.specs.declared.stmt.Extent.{Extent}
+use Rattle.cm_syntax.specs.declared.stmt.Extent.TheVariants as extent
+use Rattle.cm_syntax.specs.Extent.{extent_of}
 use Rattle.cm_syntax.specs.declared.stmt.Item.{Item}
 use Rattle.cm_syntax.specs.declared.stmt.Target.{Target}
 use Rattle.cm_syntax.specs.declared.stmt.Target.TheVariants as target
@@ -36,10 +38,10 @@ abbrev pub clear_array_code : (offset : ℤ) → (words : ℕ) → List Operatio
 clear_array_code o n = load_address reg.VALUE o ++ (load_address reg.LEFT (o +ℤ pos (4 * n)) ++ clear_words_code)
 
 -- a variable that is declared without a value is 0, an array in all its words; a slice is declared by no sound program
-abbrev pub clear_code : List Slot → (x : ℕ) → Slot → List Operation
-clear_code slots x slot.Scalar = store_slot reg.ZERO (slot_offset slots x)
-clear_code slots x (slot.Array n) = clear_array_code (slot_offset slots x) n
-clear_code slots x slot.Slice = []
+abbrev pub clear_for : List Slot → (x : ℕ) → Extent → List Operation
+clear_for slots x extent.Word = store_slot reg.ZERO (slot_offset slots x)
+clear_for slots x (extent.Words n) = clear_array_code (slot_offset slots x) n
+clear_for slots x extent.Reference = []
 
 -- behind a value in VALUE: it goes into a scalar
 abbrev pub assign_code : List Slot → (x : ℕ) → List Operation
@@ -60,9 +62,13 @@ abbrev pub write_code : List Slot → (a : ℕ) → Option Op → Expr ℕ → L
 write_code slots a o e = straight (locate_code slots a ++ keep_word slots 0) ++ (expression_code slots e 1 ++ straight (store_code slots o))
 
 -- what stands behind the value of a declared variable: it goes into a scalar
+abbrev pub item_for : List Slot → (x : ℕ) → Extent → Option (Expr ℕ) → List Part
+item_for slots x extent.Word (Some e) = expression_code slots e 0 ++ straight (assign_code slots x)
+item_for slots x s _ = straight (clear_for slots x s)
+
+-- the same by the variable's slot
 abbrev pub item_code : List Slot → (x : ℕ) → Slot → Option (Expr ℕ) → List Part
-item_code slots x slot.Scalar (Some e) = expression_code slots e 0 ++ straight (assign_code slots x)
-item_code slots x s _ = straight (clear_code slots x s)
+item_code slots x kind first = item_for slots x (extent_of kind) first
 
 -- the items of a declaration
 abbrev pub items_code : List Slot → List (Item ℕ) → List Part

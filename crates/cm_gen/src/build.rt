@@ -6,6 +6,9 @@ use cm_syntax::{Checked, Slot};
 use cm_text::List;
 use std::snapshot::Snapshot;
 
+/// The most words of an image.
+pub const MAX_IMAGE_WORDS: usize = 200_000;
+
 /// The build of a program in one form. `make` makes it, and contracts say by `IsBuild` what the fields of such a one are.
 #[derive(Drop)]
 pub struct Build {

@@ -1,6 +1,6 @@
 //! Code that is put down from its end to its beginning, so that what stands behind is known at each word: how far it is to
 //! the exit of a function, and over how many words a jump goes.
-#![tactic(auto, using(crate::proofs::BuilderLaw::code_in_put, crate::proofs::BuilderLaw::length_code))]
+#![tactic(auto, using(crate::proofs::parts::BuilderLaw::code_in_put, crate::proofs::parts::BuilderLaw::length_code))]
 
 ghost use Rattle.std.specs.Prelude.{◌≡◌, ◌<◌, ◌≤◌, ◌-◌, ◌^◌, ◌++◌, [], ◌∷◌, length, set, slice_get, Some, OnOk};
 ghost use Rattle.cm_gen.specs.Builder as builder;

@@ -1,5 +1,5 @@
 //! The code of expressions, put down before the code that stands behind it.
-#![tactic(auto, using(crate::proofs::CodeLaw::behind))]
+#![tactic(auto, using(crate::proofs::parts::CodeLaw::behind))]
 
 ghost use Rattle.std.specs.Prelude.{◌≡◌, ◌+◌, ◌≤◌, ◌<◌, ◌++◌, OnOk};
 ghost use Rattle.cm_syntax.specs.Frame.{argument_words as words_of};

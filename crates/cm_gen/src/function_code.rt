@@ -1,5 +1,5 @@
 //! The code of functions, put down before the code that stands behind it.
-#![tactic(auto, using(crate::proofs::CodeLaw::behind))]
+#![tactic(auto, using(crate::proofs::parts::CodeLaw::behind))]
 
 ghost use Rattle.std.specs.Prelude.{◌≡◌, ◌+◌, ◌-◌, ◌*◌, ◌≤◌, ◌<◌, ◌^◌, ◌++◌, length, if◌then◌else◌, IfOk, OnOk};
 ghost use Rattle.cm_syntax.specs.Frame.{frame_words, slot_words as words_of, slots_words};
@@ -17,7 +17,7 @@ use crate::simple::{store_pair, sync};
 use crate::statement::statements;
 use crate::straight::{load_number, service, store_slot, tick};
 use cm_isa::convention::{ACCOUNT, FP, HELP, RA, RESULT, SP, VALUE, ZERO};
-use cm_syntax::{Function, Item, Program, Slot, frame_bytes};
+use cm_syntax::{Extent, Function, Item, Program, Slot, frame_bytes, slot_words};
 use cm_text::Memory;
 use std::alloc::Global;
 
@@ -96,21 +96,10 @@ fn parameter(
     requires { register + words_of kind ≤ 32 }
     ensures { OnOk result (code.new ≡ straight (image.parameter_code layout.now slot register kind) ++ code.old) }
 {
-    match kind {
-        Slot::Scalar => store_slot(code, register, layout.offset(slot)),
-        Slot::Array(_) => Ok(()),
-        Slot::Slice => store_pair(code, register, register + 1, layout.offset(slot)),
-    }
-}
-
-/// The words of a slot.
-fn slot_words(kind: Slot) -> u32
-    ensures { result ≡ words_of kind }
-{
-    match kind {
-        Slot::Scalar => 1,
-        Slot::Array(words) => words,
-        Slot::Slice => 2,
+    match kind.extent() {
+        Extent::Word => store_slot(code, register, layout.offset(slot)),
+        Extent::Words(_) => Ok(()),
+        Extent::Reference => store_pair(code, register, register + 1, layout.offset(slot)),
     }
 }
 

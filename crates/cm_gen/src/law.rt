@@ -65,7 +65,7 @@ pub fn sound_programs_fit()
     ensures calls { (program : Program) (form : Form) (page : ℕ) → IsSoundProgram program
         → AreCallsWithin (2 ^ 16) (program_code program form page) }
     ensures room { (program : Program) (form : Form) (page : ℕ) → IsSoundProgram program
-        → length (program_code program form page) ≤ 200000
+        → length (program_code program form page) ≤ max_image_words
         → HaveRoom form page (functions_start program) (serial_end program page) program.functions }
 {}
 

@@ -5,6 +5,7 @@ ghost use Rattle.std.specs.Prelude.{◌≡◌, ◌+◌, ◌*◌, ◌≤◌, ◌<
 ghost use Rattle.cm_isa.specs.Address.{AreWordsOf};
 ghost use Rattle.cm_gen.specs.Builder as builder;
 ghost use Rattle.cm_gen.specs.Part.{placed, laid};
+ghost use Rattle.cm_gen.specs.Build.{max_image_words};
 
 use crate::builder::{CodeBuilder, Word};
 use crate::instruction::jal;
@@ -26,7 +27,7 @@ pub(crate) fn assemble_code(alloc: Global, code: &[Instr]) -> Result<List<u32>, 
 
 /// The instruction that a word is at an address.
 fn place(word: Word, address: u32) -> Instr
-    requires reach { builder.reach word ≤ 200000 }
+    requires reach { builder.reach word ≤ max_image_words }
     requires call { builder.IsCallWithin (2 ^ 16) (builder.seen word) }
     requires address { address < 2 ^ 20 }
     requires aligned { address % 4 ≡ 0 }
@@ -42,7 +43,7 @@ fn place(word: Word, address: u32) -> Instr
 
 /// The words of the code, from an address on. `Memory` is want of memory.
 pub(crate) fn lay(alloc: Global, code: &CodeBuilder, start: u32) -> Result<List<u32>, Memory>
-    requires length { length code.now ≤ 200000 }
+    requires length { length code.now ≤ max_image_words }
     requires calls { builder.AreCallsWithin (2 ^ 16) code.now }
     requires start { start ≤ 2 ^ 12 }
     requires aligned { start % 4 ≡ 0 }

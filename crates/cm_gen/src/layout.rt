@@ -6,7 +6,7 @@ ghost use Rattle.cm_syntax.specs.Limit.{max_frame_words};
 ghost use Rattle.cm_isa.specs.Bits.{minus};
 ghost use Rattle.cm_gen.specs.Expression.{words_through, slot_offset, temporary_offset};
 
-use cm_syntax::Slot;
+use cm_syntax::{Slot, slot_words};
 use cm_text::{List, Memory};
 use std::alloc::Global;
 use std::marker::Model;
@@ -101,17 +101,6 @@ impl Layout {
         ensures { result ≡ temporary_offset self.now number }
     {
         word_offset(3 + self.words + number)
-    }
-}
-
-/// The words of a slot.
-fn slot_words(slot: Slot) -> u32
-    ensures { result ≡ frame.slot_words slot }
-{
-    match slot {
-        Slot::Scalar => 1,
-        Slot::Array(words) => words,
-        Slot::Slice => 2,
     }
 }
 

@@ -24,7 +24,7 @@ mod standing;
 mod statement;
 mod straight;
 
-pub use build::Build;
+pub use build::{Build, MAX_IMAGE_WORDS};
 pub use form::{Form, Part};
 pub use law::{
     code_sizes, frames_hold_temporaries, images_are_bounded, loops_are_alike,

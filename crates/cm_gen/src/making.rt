@@ -4,14 +4,15 @@
 ghost use Rattle.std.specs.Prelude.{◌≡◌, ◌+◌, ◌*◌, ◌<◌, ◌≤◌, ◌^◌, ◌%◌, ◌++◌, length, IfOk, ℕ, Err};
 ghost use Rattle.cm_isa.specs.Address.{AreWordsOf};
 ghost use Rattle.cm_gen.specs.Image as image;
-ghost use Rattle.cm_gen.specs.Build.{IsPage, IsBuild, max_image_words};
+ghost use Rattle.cm_maps.specs.Pages.{IsPage};
+ghost use Rattle.cm_gen.specs.Build.{IsBuild, max_image_words};
 ghost use Rattle.cm_gen.specs.Fits as fits;
 ghost use Rattle.cm_gen.specs.Builder as builder;
 ghost use Rattle.cm_gen.specs.Part.{laid};
 ghost use Rattle.cm_gen.specs.declared.making.GenRefusal.TheVariants as refusal;
 ghost use Rattle.cm_syntax.specs.Limit.{max_functions};
 
-use crate::build::Build;
+use crate::build::{Build, MAX_IMAGE_WORDS};
 use crate::builder::CodeBuilder;
 use crate::form::Form;
 use crate::front::{Front, end_service, frames, parameters, table};
@@ -80,7 +81,7 @@ fn front(
 
 /// The words of an image, of what stands before the functions and of their code.
 fn join(alloc: Global, front: &Front, code: &CodeBuilder, start: u32) -> Result<List<u32>, Memory>
-    requires length { length code.now ≤ 200000 }
+    requires length { length code.now ≤ max_image_words }
     requires calls { builder.AreCallsWithin (2 ^ 16) code.now }
     requires start { (start ≤ 2 ^ 12) × (start % 4 ≡ 0) }
     ensures { IfOk result (λ words. AreWordsOf words (front.now.code ++ laid start code.now)) }
@@ -92,7 +93,7 @@ fn join(alloc: Global, front: &Front, code: &CodeBuilder, start: u32) -> Result<
 }
 
 /// The build of a program, by the code of its functions.
-#[tactic(auto, using(crate::proofs::MakingLaw::fits_of, crate::proofs::MakingLaw::few_of))]
+#[tactic(auto, using(crate::proofs::images::MakingLaw::fits_of, crate::proofs::images::MakingLaw::few_of))]
 fn build_of(
     alloc: Global,
     program: &Checked,
@@ -152,7 +153,7 @@ impl From<Memory> for GenRefusal {
 ///
 /// `Long` comes only where the image would have more than 200,000 words, and no build has more. Its time grows as the
 /// words of the image do.
-#[tactic(auto, using(crate::proofs::MakingLaw::fits_of, crate::proofs::MakingLaw::few_of, crate::proofs::WithinLaw::sound_calls, crate::proofs::ImageLaw::room_of))]
+#[tactic(auto, using(crate::proofs::images::MakingLaw::fits_of, crate::proofs::images::MakingLaw::few_of, crate::proofs::sizes::WithinLaw::sound_calls, crate::proofs::images::ImageLaw::room_of))]
 pub fn make(alloc: Global, program: &Checked, form: Form, page: u32) -> Result<Build, GenRefusal>
     requires page { IsPage page }
     ensures made { IfOk result (λ build. IsBuild program.now form page build) }
@@ -163,7 +164,7 @@ pub fn make(alloc: Global, program: &Checked, form: Form, page: u32) -> Result<B
     let value = program.program();
     let code = program_code(alloc, form, page, value)?;
     let words = 2 + value.functions.len() as u64 + code.size();
-    if words > 200_000 {
+    if words > MAX_IMAGE_WORDS as u64 {
         return Err(GenRefusal::Long {
             words: words as u32,
         });

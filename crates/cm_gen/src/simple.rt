@@ -1,8 +1,9 @@
 //! The code of statements that have no statements in them, put down before the code that stands behind it.
-#![tactic(auto, using(crate::proofs::CodeLaw::behind))]
+#![tactic(auto, using(crate::proofs::parts::CodeLaw::behind))]
 
 ghost use Rattle.std.specs.Prelude.{◌≡◌, ◌+◌, ◌-◌, ◌*◌, ◌≤◌, ◌<◌, ◌≤ℤ◌, ◌^◌, ◌++◌, length, pos, ◌+ℤ◌, OnOk};
 ghost use Rattle.cm_syntax.specs.declared.expr.Expr.TheVariants as expressions;
+ghost use Rattle.cm_syntax.specs.Extent.{extent_of};
 ghost use Rattle.cm_syntax.specs.Frame.{slot_words};
 ghost use Rattle.cm_syntax.specs.Limit.{max_frame_words};
 ghost use Rattle.cm_syntax.specs.Rest.{called, spawned};
@@ -21,18 +22,18 @@ use crate::straight::{
     take_back, tick,
 };
 use cm_isa::convention::{HELP, LEFT, SPARE, VALUE, ZERO};
-use cm_syntax::{Call, Expr, Item, Mark, Op, Slot, Target};
+use cm_syntax::{Call, Expr, Extent, Item, Mark, Op, Slot, Target};
 use cm_text::Memory;
 
 /// A variable that is declared without a value is 0, an array in all its words.
 fn clear(code: &mut CodeBuilder, layout: &Layout, slot: u32, kind: Slot) -> Result<(), Memory>
     requires { slot_words kind ≤ max_frame_words }
-    ensures { OnOk result (code.new ≡ straight (statement.clear_code layout.now slot kind) ++ code.old) }
+    ensures { OnOk result (code.new ≡ straight (statement.clear_for layout.now slot (extent_of kind)) ++ code.old) }
 {
-    match kind {
-        Slot::Scalar => store_slot(code, ZERO, layout.offset(slot)),
-        Slot::Array(words) => clear_array(code, layout.offset(slot), words),
-        Slot::Slice => Ok(()),
+    match kind.extent() {
+        Extent::Word => store_slot(code, ZERO, layout.offset(slot)),
+        Extent::Words(words) => clear_array(code, layout.offset(slot), words),
+        Extent::Reference => Ok(()),
     }
 }
 
@@ -156,8 +157,8 @@ fn declare_item(
 {
     match first {
         None => clear(code, layout, slot, kind),
-        Some(value) => match kind {
-            Slot::Scalar => {
+        Some(value) => match kind.extent() {
+            Extent::Word => {
                 assign_scalar(code, layout, slot)?;
                 expression(code, layout, value, 0)
             }

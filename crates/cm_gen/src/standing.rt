@@ -19,11 +19,12 @@ ghost use Rattle.cm_gen.specs.Standing.{IsCompiled};
 ghost use Rattle.cm_gen.specs.FrameWord.{Touches};
 ghost use Rattle.cm_gen.specs.Formed.{Runs, Formed, KeepsFormed};
 ghost use Rattle.cm_gen.specs.StandsFor.{Spot, ExactAt, Exact, LeadsFrom, StandsFor, MapsFrame, GoesOn, Begins, with_words};
+ghost use Rattle.cm_gen.specs.Build.{max_image_words};
 
 /// The words of an image are the code of its program: every function stands behind its word in the table.
 pub fn images_are_compiled()
     ensures { (program : Program) (form : Form) (page : ℕ) (words : List ℕ) → IsSoundProgram program
-        → AreWordsOf words (image_of program form page) → length (program_code program form page) ≤ 200000
+        → AreWordsOf words (image_of program form page) → length (program_code program form page) ≤ max_image_words
         → IsCompiled program form page (InstructionAt words) }
 {}
 

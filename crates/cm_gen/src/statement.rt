@@ -2,7 +2,7 @@
 //!
 //! `exit` is the number of words from the exit of the function on, so that what stands behind a statement
 //! says how far `return` jumps.
-#![tactic(auto, using(crate::proofs::CodeLaw::behind))]
+#![tactic(auto, using(crate::proofs::parts::CodeLaw::behind))]
 
 ghost use Rattle.std.specs.Prelude.{◌≡◌, ◌+◌, ◌-◌, ◌≤◌, ◌<◌, ◌++◌, ◌∷◌, List, length, Some, None, OnOk};
 ghost use Rattle.cm_syntax.specs.declared.stmt.Slot.{Slot};

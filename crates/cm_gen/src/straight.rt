@@ -1,8 +1,9 @@
 //! The patterns of the code that don't call, put down before the code that stands behind them.
-#![tactic(auto, using(crate::proofs::CodeLaw::behind))]
+#![tactic(auto, using(crate::proofs::parts::CodeLaw::behind))]
 
 ghost use Rattle.std.specs.Prelude.{◌≡◌, ◌+◌, ◌*◌, ◌<◌, ◌≤◌, ◌^◌, [], ◌∷◌, ◌++◌, length, pos, ◌≤ℤ◌, OnOk, Some};
 ghost use Rattle.cm_isa.specs.Bits.{IsSigned};
+ghost use Rattle.cm_syntax.specs.Extent.{extent_of};
 ghost use Rattle.cm_syntax.specs.Frame.{slot_words};
 ghost use Rattle.cm_syntax.specs.Limit.{max_frame_words};
 ghost use Rattle.cm_gen.specs.Code as pattern;
@@ -18,7 +19,7 @@ use crate::instruction::{
 use crate::layout::Layout;
 use cm_isa::Instr;
 use cm_isa::convention::{FP, HELP, LEFT, RESULT, SERVICE, TICKS, VALUE, ZERO};
-use cm_syntax::{Op, Slot};
+use cm_syntax::{Extent, Op, Slot};
 use cm_text::Memory;
 
 /// The register takes a number.
@@ -184,18 +185,18 @@ pub(crate) fn truth(code: &mut CodeBuilder) -> Result<(), Memory>
 fn base_of(code: &mut CodeBuilder, kind: Slot, offset: i32) -> Result<(), Memory>
     requires kind { slot_words kind ≤ max_frame_words }
     requires offset { offset ≤ℤ pos 0 }
-    ensures { OnOk result (code.new ≡ straight (expression.base_in (Some kind) offset) ++ code.old) }
+    ensures { OnOk result (code.new ≡ straight (expression.base_for (Some (extent_of kind)) offset) ++ code.old) }
 {
-    match kind {
-        Slot::Scalar => {
+    match kind.extent() {
+        Extent::Word => {
             load_number(code, HELP, 1)?;
             load_address(code, LEFT, offset)
         }
-        Slot::Array(words) => {
+        Extent::Words(words) => {
             load_number(code, HELP, words as i32)?;
             load_address(code, LEFT, offset)
         }
-        Slot::Slice => {
+        Extent::Reference => {
             load_slot(code, HELP, offset + 4)?;
             load_slot(code, LEFT, offset)
         }
@@ -216,12 +217,12 @@ pub(crate) fn base(code: &mut CodeBuilder, layout: &Layout, slot: u32) -> Result
 fn length_of(code: &mut CodeBuilder, kind: Slot, offset: i32) -> Result<(), Memory>
     requires kind { slot_words kind ≤ max_frame_words }
     requires offset { offset ≤ℤ pos 0 }
-    ensures { OnOk result (code.new ≡ straight (expression.length_in (Some kind) offset) ++ code.old) }
+    ensures { OnOk result (code.new ≡ straight (expression.length_for (Some (extent_of kind)) offset) ++ code.old) }
 {
-    match kind {
-        Slot::Scalar => load_number(code, VALUE, 1),
-        Slot::Array(words) => load_number(code, VALUE, words as i32),
-        Slot::Slice => load_slot(code, VALUE, offset + 4),
+    match kind.extent() {
+        Extent::Word => load_number(code, VALUE, 1),
+        Extent::Words(words) => load_number(code, VALUE, words as i32),
+        Extent::Reference => load_slot(code, VALUE, offset + 4),
     }
 }
 

@@ -1,8 +1,8 @@
 use Rattle.std.proofs.Common.{◌∷◌, refl, ap, ◌∙◌, arith}
 use Rattle.std.proofs.lemmas.Result.{on_ok_weaker}
 use Rattle.cm_gen.specs.Part.{call}
-use Rattle.cm_gen.proofs.CodeLaw.{behind_one}
-use Rattle.cm_gen.proofs.ExpressionLaw.{one-Index, one-Input, one-Unary, two-Binary, calls-Call}
+use Rattle.cm_gen.proofs.parts.CodeLaw.{behind_one}
+use Rattle.cm_gen.proofs.parts.ExpressionLaw.{one-Index, one-Input, one-Unary, two-Binary, calls-Call}
 use Rattle.cm_gen.proofs.evaluation.+expression.Goals as goal
 
 pub expression-expression-requires : goal.expression-expression-requires

@@ -1,5 +1,5 @@
 use Rattle.std.proofs.Common.{◌+◌}
-use Rattle.cm_gen.proofs.ExpressionLaw.{weight, argument_weight, list_weight}
+use Rattle.cm_gen.proofs.parts.ExpressionLaw.{weight, argument_weight, list_weight}
 use Rattle.cm_gen.proofs.evaluation.+expression.Given as goal
 
 abbrev pub decreases-expression : goal.decreases-expression

@@ -1,4 +1,4 @@
-use Rattle.cm_gen.proofs.FunctionLaw.{function_fits_at}
+use Rattle.cm_gen.proofs.parts.FunctionLaw.{function_fits_at}
 use Rattle.cm_gen.proofs.front.frames.Goals as goal
 
 pub frame_words-requires : goal.frame_words-requires

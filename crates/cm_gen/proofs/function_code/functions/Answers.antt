@@ -1,5 +1,5 @@
 use Rattle.std.proofs.Common.{◌-◌, arith}
-use Rattle.cm_gen.proofs.FunctionLaw.{function_fits_at}
+use Rattle.cm_gen.proofs.parts.FunctionLaw.{function_fits_at}
 use Rattle.cm_gen.proofs.function_code.functions.Goals as goal
 
 pub function-requires-clause-fits : goal.function-requires-clause-fits

@@ -1,4 +1,4 @@
-use Rattle.cm_gen.proofs.SizeLaw.{size-statement, size-body}
+use Rattle.cm_gen.proofs.sizes.SizeLaw.{size-statement, size-body}
 use Rattle.cm_gen.proofs.law.code_sizes.Goals as goal
 
 pub returns-clause-statement : goal.returns-clause-statement

@@ -1,4 +1,4 @@
-use Rattle.cm_gen.proofs.FitsLaw.{fits}
+use Rattle.cm_gen.proofs.sizes.FitsLaw.{fits}
 use Rattle.cm_gen.proofs.law.frames_hold_temporaries.Goals as goal
 
 pub returns : goal.returns

@@ -1,5 +1,5 @@
 use Rattle.std.proofs.Common.{arith}
-use Rattle.cm_gen.proofs.BoundLaw.{source_bound, sound_bound}
+use Rattle.cm_gen.proofs.sizes.BoundLaw.{source_bound, sound_bound}
 use Rattle.cm_gen.proofs.law.images_are_bounded.Goals as goal
 
 pub returns-clause-words : goal.returns-clause-words

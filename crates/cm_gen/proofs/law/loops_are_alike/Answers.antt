@@ -1,4 +1,4 @@
-use Rattle.cm_gen.proofs.SizeLaw.{while_turn}
+use Rattle.cm_gen.proofs.sizes.SizeLaw.{while_turn}
 use Rattle.cm_gen.proofs.law.loops_are_alike.Goals as goal
 
 pub returns : goal.returns

@@ -1,4 +1,4 @@
-use Rattle.cm_gen.proofs.ImageLaw.{image_parts, length-front, serial_entry}
+use Rattle.cm_gen.proofs.images.ImageLaw.{image_parts, length-front, serial_entry}
 use Rattle.cm_gen.proofs.law.serial_parts_are_alike.Goals as goal
 
 pub returns-clause-front : goal.returns-clause-front

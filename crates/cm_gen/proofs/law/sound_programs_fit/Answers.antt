@@ -1,6 +1,6 @@
-use Rattle.cm_gen.proofs.SoundFitsLaw.{sound_functions}
-use Rattle.cm_gen.proofs.WithinLaw.{sound_calls}
-use Rattle.cm_gen.proofs.ImageLaw.{room_of}
+use Rattle.cm_gen.proofs.sizes.SoundFitsLaw.{sound_functions}
+use Rattle.cm_gen.proofs.sizes.WithinLaw.{sound_calls}
+use Rattle.cm_gen.proofs.images.ImageLaw.{room_of}
 use Rattle.cm_gen.proofs.law.sound_programs_fit.Goals as goal
 
 pub returns-clause-fit : goal.returns-clause-fit

@@ -3,7 +3,7 @@ use Rattle.cm_isa.specs.Address.{AreWordsOf}
 use Rattle.cm_isa.specs.Format.{Row}
 use Rattle.cm_gen.specs.Builder.{seen}
 use Rattle.cm_gen.specs.Part.{placed, laid}
-use Rattle.cm_gen.proofs.LayingLaw.{calls_at, words_next}
+use Rattle.cm_gen.proofs.parts.LayingLaw.{calls_at, words_next}
 use Rattle.cm_gen.proofs.laying.lay.Goals as goal
 
 pub place-requires-clause-call : goal.place-requires-clause-call

@@ -1,7 +1,7 @@
 use Rattle.std.proofs.Common.{sym, ap, ◌∙◌, subst}
 use Rattle.cm_syntax.specs.declared.stmt.Program.{Program}
 use Rattle.cm_gen.specs.Fits.{FunctionsFit}
-use Rattle.cm_gen.proofs.MakingLaw.{fits_of}
+use Rattle.cm_gen.proofs.images.MakingLaw.{fits_of}
 use Rattle.cm_gen.proofs.making.build_of.Goals as goal
 
 pub serial_size-requires-clause-fits : goal.serial_size-requires-clause-fits

@@ -1,7 +1,7 @@
 use Rattle.std.proofs.Common.{◌++◌, List, ℕ, sym, ap, ◌∙◌, subst}
 use Rattle.cm_isa.specs.Address.{AreWordsOf}
 use Rattle.cm_gen.specs.Part.{laid}
-use Rattle.cm_gen.proofs.LayingLaw.{words_append}
+use Rattle.cm_gen.proofs.parts.LayingLaw.{words_append}
 use Rattle.cm_gen.proofs.making.join.Goals as goal
 
 pub returns : goal.returns

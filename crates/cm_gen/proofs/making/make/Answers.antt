@@ -1,8 +1,8 @@
 use Rattle.std.proofs.Common.{◌+◌, sym, subst, arith}
 use Rattle.cm_syntax.specs.declared.stmt.Program.{Program}
 use Rattle.cm_gen.specs.Fits.{FunctionsFit}
-use Rattle.cm_gen.proofs.ImageLaw.{room_of}
-use Rattle.cm_gen.proofs.MakingLaw.{fits_of, few_of, counted, too_long, short_enough, fits_number, same_words}
+use Rattle.cm_gen.proofs.images.ImageLaw.{room_of}
+use Rattle.cm_gen.proofs.images.MakingLaw.{fits_of, few_of, counted, too_long, short_enough, fits_number, same_words}
 use Rattle.cm_gen.proofs.making.make.Goals as goal
 
 pub program_code-requires-clause-fits : goal.program_code-requires-clause-fits
@@ -15,20 +15,20 @@ overflow_cast-result c =
     let sum = counted p c.program-value.result.now c.args.form c.args.page c.len.result c.size.result c.in_ok-code.code c.program-value.ensures.program c.len.ensures c.size.ensures.value c.in_ok-code.ensures in
     omega (arith, fits_number p c.args.form c.args.page (2 + c.len.result + c.size.result) c.program-value.ensures.sound sum)
 
-pub returns-then-words-gt200000-clause-long : goal.returns-then-words-gt200000-clause-long
-returns-then-words-gt200000-clause-long c = λ words is.
+pub returns-then-words-clause-long : goal.returns-then-words-clause-long
+returns-then-words-clause-long c = λ words is.
     let p = c.args.program.now in
     let sum = counted p c.program-value.result.now c.args.form c.args.page c.len.result c.size.result c.in_ok-code.code c.program-value.ensures.program c.len.ensures c.size.ensures.value c.in_ok-code.ensures in
-    too_long p c.args.form c.args.page (2 + c.len.result + c.size.result) words sum (omega (arith, c.if-words-gt200000.true)) (same_words is)
+    too_long p c.args.form c.args.page (2 + c.len.result + c.size.result) words sum (omega (arith, c.if-words.true)) (same_words is)
 
 pub build_of-requires-clause-room : goal.build_of-requires-clause-room
 build_of-requires-clause-room c =
     let p = c.args.program.now in
     let sum = counted p c.program-value.result.now c.args.form c.args.page c.len.result c.size.result c.in_ok-code.code c.program-value.ensures.program c.len.ensures c.size.ensures.value c.in_ok-code.ensures in
-    room_of p c.args.form c.args.page (few_of p c.program-value.ensures.sound) (omega (arith, c.if-words-gt200000.false, sum))
+    room_of p c.args.form c.args.page (few_of p c.program-value.ensures.sound) (omega (arith, c.if-words.false, sum))
 
 pub returns-clause-short : goal.returns-clause-short
 returns-clause-short c =
     let p = c.args.program.now in
     let sum = counted p c.program-value.result.now c.args.form c.args.page c.len.result c.size.result c.in_ok-code.code c.program-value.ensures.program c.len.ensures c.size.ensures.value c.in_ok-code.ensures in
-    short_enough p c.args.form c.args.page (2 + c.len.result + c.size.result) sum (omega (arith, c.if-words-gt200000.false))
+    short_enough p c.args.form c.args.page (2 + c.len.result + c.size.result) sum (omega (arith, c.if-words.false))

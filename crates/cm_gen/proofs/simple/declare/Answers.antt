@@ -1,5 +1,5 @@
 use Rattle.std.proofs.Common.{arith, ◌-◌}
-use Rattle.cm_gen.proofs.StatementLaw.{items_fit_at}
+use Rattle.cm_gen.proofs.parts.StatementLaw.{items_fit_at}
 use Rattle.cm_gen.proofs.simple.declare.Goals as goal
 
 pub declare_item-requires-clause-kind : goal.declare_item-requires-clause-kind

@@ -1,8 +1,8 @@
 use Rattle.std.proofs.lemmas.Result.{on_ok_weaker}
 use Rattle.cm_syntax.specs.Rest.{called}
 use Rattle.cm_gen.specs.declared.form.Form.TheVariants.{Serial}
-use Rattle.cm_gen.proofs.CodeLaw.{behind_one}
-use Rattle.cm_gen.proofs.ExpressionLaw.{invokes-Call}
+use Rattle.cm_gen.proofs.parts.CodeLaw.{behind_one}
+use Rattle.cm_gen.proofs.parts.ExpressionLaw.{invokes-Call}
 use Rattle.cm_gen.proofs.simple.invoke.Goals as goal
 
 pub arguments-requires : goal.arguments-requires

@@ -1,5 +1,5 @@
 use Rattle.std.proofs.lemmas.Result.{on_ok_weaker}
-use Rattle.cm_gen.proofs.ExpressionLaw.{invokes-Call, spawned_at}
+use Rattle.cm_gen.proofs.parts.ExpressionLaw.{invokes-Call, spawned_at}
 use Rattle.cm_gen.proofs.simple.spawn.Goals as goal
 
 pub arguments-requires : goal.arguments-requires

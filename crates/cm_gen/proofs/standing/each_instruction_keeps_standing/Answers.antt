@@ -1,9 +1,9 @@
 use Rattle.cm_gen.proofs.standing.each_instruction_keeps_standing.Goals as goal
 use Rattle.cm_isa.specs.Address.{InstructionAt}
 use Rattle.cm_meaning.proofs.WeightLaw.{lowers}
-use Rattle.cm_gen.proofs.FormedLaw.{step_keeps}
-use Rattle.cm_gen.proofs.EachStepLaw.{each_step}
-use Rattle.cm_gen.proofs.MomentLaw.{moment}
+use Rattle.cm_gen.proofs.states.FormedLaw.{step_keeps}
+use Rattle.cm_gen.proofs.items.EachStepLaw.{each_step}
+use Rattle.cm_gen.proofs.images.MomentLaw.{moment}
 
 pub returns : goal.returns
 returns c = λ program form page limit input words left d h m next runs compiled few formed stands maps steps.

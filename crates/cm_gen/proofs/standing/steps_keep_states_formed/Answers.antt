@@ -1,5 +1,5 @@
 use Rattle.cm_gen.proofs.standing.steps_keep_states_formed.Goals as goal
-use Rattle.cm_gen.proofs.FormedLaw.{step_keeps, start_formed}
+use Rattle.cm_gen.proofs.states.FormedLaw.{step_keeps, start_formed}
 
 pub returns-clause-first : goal.returns-clause-first
 returns-clause-first c = λ program page limit input runs. start_formed program page limit input runs

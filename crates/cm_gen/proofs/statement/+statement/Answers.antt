@@ -3,8 +3,8 @@ use Rattle.std.proofs.lemmas.Result.{on_ok_weaker}
 use Rattle.cm_syntax.proofs.StatementLaw as measure
 use Rattle.cm_gen.specs.Part.{Part, straight}
 use Rattle.cm_gen.specs.Statement.{statement_code, statement_size, part_code, turn_code, loop_code, body_code}
-use Rattle.cm_gen.proofs.CodeLaw.{behind_one}
-use Rattle.cm_gen.proofs.StatementLaw.{choice_made, choice_place, turn_made, first_made, closed_none, closed_some, renamed, alone-If, choice-If, repeats-While, counts-For, blocks-Block, splits-Split, body_fits_at, body_next}
+use Rattle.cm_gen.proofs.parts.CodeLaw.{behind_one}
+use Rattle.cm_gen.proofs.parts.StatementLaw.{choice_made, choice_place, turn_made, first_made, closed_none, closed_some, renamed, alone-If, choice-If, repeats-While, counts-For, blocks-Block, splits-Split, body_fits_at, body_next}
 use Rattle.cm_gen.proofs.statement.+statement.Goals as goal
 
 pub choice-returns : goal.choice-returns

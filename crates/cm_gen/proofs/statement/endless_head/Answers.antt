@@ -1,6 +1,6 @@
 use Rattle.std.proofs.Common.{◌-◌, length, set, ap, ◌∙◌}
 use Rattle.cm_gen.specs.Builder.{back}
-use Rattle.cm_gen.proofs.StatementLaw.{endless_closed}
+use Rattle.cm_gen.proofs.parts.StatementLaw.{endless_closed}
 use Rattle.cm_gen.proofs.statement.endless_head.Goals as goal
 
 pub returns : goal.returns

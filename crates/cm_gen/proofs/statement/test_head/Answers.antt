@@ -2,7 +2,7 @@ use Rattle.std.proofs.Common.{◌-◌, ◌++◌, length, set, ap, ◌∙◌}
 use Rattle.cm_gen.specs.Builder.{back}
 use Rattle.cm_gen.specs.Part.{straight}
 use Rattle.cm_gen.specs.Expression.{skip_unless}
-use Rattle.cm_gen.proofs.StatementLaw.{test_closed}
+use Rattle.cm_gen.proofs.parts.StatementLaw.{test_closed}
 use Rattle.cm_gen.proofs.statement.test_head.Goals as goal
 
 pub returns : goal.returns

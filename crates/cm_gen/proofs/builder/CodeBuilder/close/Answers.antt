@@ -3,7 +3,7 @@ use Rattle.std.proofs.lemmas.List.{length-set}
 use Rattle.cm_gen.specs.declared.builder.Word.TheVariants as word
 use Rattle.cm_gen.specs.Builder.{AreWithin, back}
 use Rattle.cm_gen.specs.Part.{Part}
-use Rattle.cm_gen.proofs.BuilderLaw.{length_code, code_in_set, within_set}
+use Rattle.cm_gen.proofs.parts.BuilderLaw.{length_code, code_in_set, within_set}
 use Rattle.cm_gen.proofs.builder.CodeBuilder.close.Goals as goal
 
 pub invariant_of-self : goal.invariant_of-self

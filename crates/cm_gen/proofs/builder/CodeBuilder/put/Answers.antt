@@ -1,7 +1,7 @@
 use Rattle.std.proofs.Common.{◌≡◌, ◌+◌, ◌≤◌, ◌++◌, [], ◌∷◌, length, List, sym, ap, subst, arith, length-append}
 use Rattle.cm_gen.specs.declared.builder.Word.{Word}
 use Rattle.cm_gen.specs.Builder.{AreWithin, reach}
-use Rattle.cm_gen.proofs.BuilderLaw.{length_code, within_more, within_put}
+use Rattle.cm_gen.proofs.parts.BuilderLaw.{length_code, within_more, within_put}
 use Rattle.cm_gen.proofs.builder.CodeBuilder.put.Goals as goal
 
 pub invariant_of-self-2 : goal.invariant_of-self-2

@@ -1,6 +1,6 @@
 use Rattle.std.proofs.Common.{◌-◌, ◌<◌, length, ap, arith}
 use Rattle.cm_gen.specs.Builder.{reach}
-use Rattle.cm_gen.proofs.BuilderLaw.{length_code, within_at}
+use Rattle.cm_gen.proofs.parts.BuilderLaw.{length_code, within_at}
 use Rattle.cm_gen.proofs.builder.CodeBuilder.word.Goals as goal
 
 pub returns-clause-reach : goal.returns-clause-reach

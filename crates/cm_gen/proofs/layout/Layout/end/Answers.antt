@@ -1,6 +1,6 @@
 use Rattle.std.proofs.Common.{ap, sym, ◌∙◌, arith, length}
 use Rattle.cm_gen.specs.Expression.{words_through}
-use Rattle.cm_gen.proofs.LayoutLaw.{length_ends, end_at, ends_past, through_below}
+use Rattle.cm_gen.proofs.parts.LayoutLaw.{length_ends, end_at, ends_past, through_below}
 use Rattle.cm_gen.proofs.layout.Layout.end.Goals as goal
 
 pub returns-then-at-ends-clause-value : goal.returns-then-at-ends-clause-value

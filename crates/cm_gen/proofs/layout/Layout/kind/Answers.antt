@@ -1,4 +1,4 @@
-use Rattle.cm_gen.proofs.LayoutLaw.{kind_small}
+use Rattle.cm_gen.proofs.parts.LayoutLaw.{kind_small}
 use Rattle.cm_gen.proofs.layout.Layout.kind.Goals as goal
 
 pub returns-clause-small : goal.returns-clause-small

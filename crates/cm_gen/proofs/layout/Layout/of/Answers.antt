@@ -4,7 +4,7 @@ use Rattle.cm_syntax.specs.declared.stmt.Slot.TheVariants as slot
 use Rattle.std.proofs.lemmas.List.{take_more, take_all, take-append-drop}
 use Rattle.cm_syntax.specs.Frame.{slots_words}
 use Rattle.cm_gen.specs.Builder.{ends_of}
-use Rattle.cm_gen.proofs.LayoutLaw.{slots_words_more, ends_of_next, words_of_front}
+use Rattle.cm_gen.proofs.parts.LayoutLaw.{slots_words_more, ends_of_next, words_of_front}
 use Rattle.cm_gen.proofs.layout.Layout.of.Goals as goal
 
 pub loop-slot-init : goal.loop-slot-init

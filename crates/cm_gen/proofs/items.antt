@@ -1,0 +1,19 @@
+-- The laws of the items: the code of each comes to the next state.
+pub mod StateLaw
+pub mod StatementItemLaw
+pub mod LoopItemLaw
+pub mod ExpressionItemLaw
+pub mod OperandItemLaw
+pub mod ElementItemLaw
+pub mod LocateItemLaw
+pub mod WriteItemLaw
+pub mod DeclareItemLaw
+pub mod SplitItemLaw
+pub mod ArgumentItemLaw
+pub mod CallItemLaw
+pub mod SpawnItemLaw
+pub mod EntryLaw
+pub mod PushLaw
+pub mod LeaveLaw
+pub mod EachStepLaw
+pub mod WriteLaw
