@@ -1,3 +1,4 @@
 -- The definitions that the contracts cite.
 pub mod Address
+pub mod Code
 pub mod Step

@@ -6,7 +6,7 @@ ghost use Rattle.cm_isa.specs.Operation.{Operation};
 ghost use Rattle.cm_isa.specs.View.{slice_view};
 ghost use Rattle.cm_hart.specs.Step.{HasHartOutcome, MayStep, hart_outcome};
 
-use super::{Halt, Hart, machine_steps_are_allowed, step};
+use super::{Code, Halt, Hart, machine_steps_are_allowed, step};
 use cm_asm::Image;
 use cm_isa::{FaultKind, Regs, Shown, Words};
 use cm_text::List;
@@ -77,18 +77,24 @@ const fn fault(kind: FaultKind, address: u32) -> Halt {
     Halt::Fault { kind, address }
 }
 
+/// One step over these words, which any instruction may read and write.
+fn step_over(hart: &mut Hart, code: &Code, memory: &mut Memory) -> Halt {
+    step(hart, code, memory)
+}
+
 #[test]
 fn steps(rt: HostRuntime) -> Result<(), Fail> {
     let image = Image {
         words: List::from_vec(PROGRAM.to_vec(rt.alloc())?),
     };
+    let code = Code::of(rt.alloc(), &image)?;
     let mut memory = Memory { words: [9; 4] };
     let mut hart = Hart {
         regs: Regs::zero(),
         pc: 0,
     };
     for next in [4, 8, 12, 16, 24] {
-        assert_eq!(rt; step(&mut hart, &image, &mut memory), Halt::Going);
+        assert_eq!(rt; step_over(&mut hart, &code, &mut memory), Halt::Going);
         assert_eq!(rt; hart.pc, next);
     }
     // what each address gives then; no step changes anything
@@ -105,7 +111,7 @@ fn steps(rt: HostRuntime) -> Result<(), Fail> {
         (0xffff_fffc, fault(FaultKind::Jump, 0xffff_fffc)),
     ] {
         hart.pc = pc;
-        assert_eq!(rt; step(&mut hart, &image, &mut memory), halt, "at {pc}");
+        assert_eq!(rt; step_over(&mut hart, &code, &mut memory), halt, "at {pc}");
         assert_eq!(rt; hart.pc, pc);
         assert_eq!(rt; (hart.regs.get(1), hart.regs.get(6)), (20, 6));
         assert_eq!(rt; memory.words, [9, 6, 9, 9]);
@@ -167,15 +173,15 @@ impl Words for Paged {
 
 /// One step over words in pages. The words are then those of the outcome, and the pages and the tag as
 /// before.
-fn step_paged(hart: &mut Hart, image: &Image, memory: &mut Paged) -> Halt
-    requires { MayStep (⟦<Paged as Words>⟧.view memory.old) image.now.words hart.old }
-    ensures outcome { (i : Operation) → InstructionAt image.now.words hart.old.pc i →
+fn step_paged(hart: &mut Hart, code: &Code, memory: &mut Paged) -> Halt
+    requires { MayStep (⟦<Paged as Words>⟧.view memory.old) code.now hart.old }
+    ensures outcome { (i : Operation) → InstructionAt code.now hart.old.pc i →
         let after = hart_outcome (⟦<Paged as Words>⟧.view memory.old) i hart.old in
         HasHartOutcome after hart.old result hart.new (⟦<Paged as Words>⟧.view memory.new) }
     ensures pages { memory.new.pages.items ≡ memory.old.pages.items }
     ensures tag { memory.new.tag ≡ memory.old.tag }
 {
-    step(hart, image, memory)
+    step(hart, code, memory)
 }
 
 /// The words of a slice, from address 0 on.
@@ -212,12 +218,12 @@ impl Words for Lent<'_> {
 }
 
 /// One step over a slice that is borrowed for it. The owner then has the words of the outcome.
-fn step_lent(hart: &mut Hart, image: &Image, words: &mut [u32]) -> Halt
-    requires { MayStep (slice_view words.old) image.now.words hart.old }
-    ensures outcome { (i : Operation) → InstructionAt image.now.words hart.old.pc i →
+fn step_lent(hart: &mut Hart, code: &Code, words: &mut [u32]) -> Halt
+    requires { MayStep (slice_view words.old) code.now hart.old }
+    ensures outcome { (i : Operation) → InstructionAt code.now hart.old.pc i →
         let after = hart_outcome (slice_view words.old) i hart.old in
         HasHartOutcome after hart.old result hart.new (slice_view words.new) }
     ensures count { length words.new ≡ length words.old }
 {
-    step(hart, image, &mut Lent { words })
+    step(hart, code, &mut Lent { words })
 }

@@ -51,12 +51,6 @@ replies [] = []
 replies (silent ∷ labels) = replies labels
 replies (call c ∷ labels) = c.reply ∷ replies labels
 
--- a run to an `ecall` for this service, which gets no reply
-pub record StopsAt (code : Code) (labels : List Label) (m last : Machine) (service : ℕ) : Type 0 where
-  pub runs : Runs code labels m last
-  pub asks : code last.counter ecall
-  pub number : last.registers reg.SERVICE ≡ service
-
 -- ---- further words
 
 -- what is at an address beside further words: an own word, or else what the further ones have

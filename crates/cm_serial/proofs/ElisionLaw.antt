@@ -5,7 +5,7 @@ use Rattle.std.proofs.lemmas.Bool.{ltb-false}
 use Rattle.std.proofs.lemmas.Int.{ints, to_z-of_z}
 use Rattle.std.proofs.lemmas.List.{append-nil, append_assoc}
 use Rattle.std.proofs.lemmas.Option.{none-some, same_Some, slice_get_past}
-use Rattle.std.specs.Prelude.{⊤, Bool, true, false, if◌then◌else◌, ◌==◌, ℤ, pos, negsuc, FitsSigned, IsSome, is_some, slice_get}
+use Rattle.std.specs.Prelude.{⊤, Bool, true, false, if◌then◌else◌, ◌==◌, ℤ, pos, negsuc, FitsSigned, is_some, slice_get}
 use Rattle.std.specs.Int.{w32, cast_signed}
 use Rattle.cm_isa.specs.Action.{action_at, follow}
 use Rattle.cm_isa.specs.Effect.{action_change}
@@ -34,8 +34,7 @@ use Rattle.cm_gen.specs.Standing.{form_of, form_here}
 use Rattle.cm_gen.specs.FrameWord.{bits, words_in, bytes_of, taken}
 use Rattle.cm_gen.specs.Formed.{Runs, Formed, KeepsFormed}
 use Rattle.cm_gen.specs.StandsFor.{Spot, ExactAt, Exact, Serves, Reaches, stands, hears, opens, Arrives, ArrivesSpawn, ArrivesSync, LeadsFrom, passed}
-use Rattle.cm_gen.proofs.MappedWordLaw.{is_own_at}
-use Rattle.cm_gen.proofs.FrameWordLaw.{may_stand_above, may_stand_low, low_end_below}
+use Rattle.cm_gen.proofs.frames.FrameWordLaw.{may_stand_above, may_stand_low, low_end_below}
 use Rattle.cm_serial.specs.declared.service.Stop.TheVariants as stop
 use Rattle.cm_serial.specs.declared.service.Answer.{Answer}
 use Rattle.cm_serial.specs.declared.service.Answer.TheVariants as answer

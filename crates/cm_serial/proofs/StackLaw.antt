@@ -1,5 +1,5 @@
 -- The stack as a map of words, and the start of a run over it.
-use Rattle.std.proofs.Common.{◌≡◌, ℕ, ◌-◌, ◌/◌, ◌%◌, ◌<◌, ◌≤◌, List, length, Some, refl, sym, ap, ◌∙◌, arith, ⊎_elim, eq-eqb}
+use Rattle.std.proofs.Common.{◌≡◌, ℕ, ◌-◌, ◌/◌, ◌%◌, ◌<◌, ◌≤◌, List, length, refl, sym, ap, ◌∙◌, arith, ⊎_elim, eq-eqb}
 use Rattle.std.proofs.lemmas.Bool.{cases_lt, le-ltb, lt-ltb, ltb-true, ltb-false}
 use Rattle.std.proofs.lemmas.List.{get_or-replicate, get_or_past, length-replicate}
 use Rattle.std.specs.Prelude.{Bool, true, false, nat_lt, if◌then◌else◌, ◌==◌, slice_index, replicate}
@@ -11,7 +11,6 @@ use Rattle.cm_isa.proofs.Machine.{put_register}
 use Rattle.cm_syntax.specs.declared.stmt.Program.{Program}
 use Rattle.cm_meaning.specs.Meaning.{Limits}
 use Rattle.cm_gen.specs.Run.{stack_top, start_registers}
-use Rattle.cm_gen.proofs.MappedWordLaw.{is_own_at}
 use Rattle.cm_serial.specs.Run.{stack_bytes, IsStart}
 use Rattle.cm_serial.specs.Stack.{stack_low, stack_shown, stack_view, first_registers, start_machine}
 

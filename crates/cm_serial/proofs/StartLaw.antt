@@ -7,8 +7,10 @@ use Rattle.cm_isa.specs.Operation.{Operation, ecall}
 use Rattle.cm_syntax.specs.declared.stmt.Program.{Program}
 use Rattle.cm_syntax.specs.Fault.{IsSoundProgram}
 use Rattle.cm_meaning.specs.Meaning.{Limits}
-use Rattle.cm_meaning.specs.Range.{HasRanges, IsPage, max_input_numbers}
+use Rattle.cm_maps.specs.Pages.{IsPage}
+use Rattle.cm_meaning.specs.Range.{HasRanges, max_input_numbers}
 use Rattle.cm_gen.specs.declared.form.Form.{Form}
+use Rattle.cm_gen.specs.Build.{max_image_words}
 use Rattle.cm_gen.specs.Part.{Part, laid}
 use Rattle.cm_gen.specs.Image.{image_of, front_of, functions_start, program_code}
 use Rattle.cm_gen.specs.Formed.{Runs}
@@ -54,7 +56,7 @@ length-words [] (i ∷ is) h = absurd h
 length-words (w ∷ words) [] h = absurd h
 
 -- each instruction of a short image is far below the end of the addresses
-pub ecall_below : (words : List ℕ) (is : List Operation) → AreWordsOf words is → length is ≤ 200000 → (p : ℕ) → InstructionAt words p ecall → p + 4 < 2 ^ 32
+pub ecall_below : (words : List ℕ) (is : List Operation) → AreWordsOf words is → length is ≤ max_image_words → (p : ℕ) → InstructionAt words p ecall → p + 4 < 2 ^ 32
 ecall_below words is are short p there =
     let same = length-words words is are in
     let inside = there.1 in

@@ -1,6 +1,6 @@
 -- A run of one hart: its steps, of instructions and of services, up to the service that ends it. The machine is that of the
 -- instructions alone; nothing of the code that runs it is named.
-use Rattle.std.specs.Prelude.{◌≡◌, ℕ, suc, ◌+◌, ◌*◌, ◌-◌, ◌%◌, ◌<◌, ◌≤◌, ℤ, None, Some, IsSome, List, [], ◌∷◌, ◌++◌}
+use Rattle.std.specs.Prelude.{◌≡◌, ℕ, suc, ◌+◌, ◌*◌, ◌-◌, ◌%◌, ◌<◌, ◌≤◌, ℤ, None, Some, List, [], ◌∷◌, ◌++◌}
 use Rattle.std.specs.Int.{w32, cast_signed}
 use Rattle.cm_isa.specs.Address.{AreWordsOf, InstructionAt}
 use Rattle.cm_isa.specs.Operation.{ecall}

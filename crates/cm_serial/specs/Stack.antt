@@ -9,10 +9,6 @@ use Rattle.cm_isa.specs.declared.memory.Shown.TheVariants.{Place, Outside}
 use Rattle.cm_gen.specs.Run.{stack_top}
 use Rattle.cm_gen.specs.Part.{table_word}
 
--- the most words of a stack: 256 pages of 4,096 bytes
-abbrev pub max_stack_words : ℕ
-max_stack_words = 262144
-
 -- the lowest address of a stack of so many words
 abbrev pub stack_low : (count : ℕ) → ℕ
 stack_low count = stack_top - 4 * count

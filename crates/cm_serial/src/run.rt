@@ -23,9 +23,8 @@ ghost use Rattle.cm_serial.specs.declared.service.Answer.TheVariants as answer;
 use crate::law::images_run_as_elisions;
 use crate::service::{Answer, Stop, answer_to};
 use crate::stack::{Stack, first_regs};
-use cm_asm::Image;
 use cm_gen::{Build, sound_programs_fit};
-use cm_hart::{Halt, Hart, step};
+use cm_hart::{Code, Halt, Hart, step};
 use cm_isa::convention::{RESULT, TICKS, VALUE};
 use cm_meaning::{Ended, Limits, Output, sound_programs_end};
 use cm_text::Memory;
@@ -43,7 +42,7 @@ pub struct Served {
 /// Runs a program's serial build on one hart, from its start to the service that ends it: the end is that of the serial
 /// elision of the program, with output, value or trap, and ticks. Limits and input have to be in their ranges, as for
 /// `elide`, and the page is that of the build. `Memory` is want of memory, also where a run has more than 2^64 - 1 steps.
-/// The words of the stack are taken once, and a step takes no memory but for a print.
+/// The words of the stack and the instructions are taken once, and a step takes no memory but for a print.
 pub fn serial(
     alloc: Global,
     build: &Build,
@@ -62,41 +61,35 @@ pub fn serial(
     sound_programs_end();
     sound_programs_fit();
     read_all(input);
+    let code = Code::of(alloc, &build.image)?;
     let account = limits.stack * limits.page;
     let mut stack = Stack::new(alloc, account as usize / 4)?;
     let mut hart = Hart {
         regs: first_regs(account, limits.ticks),
         pc: 8 + 4 * build.main,
     };
-    let served = run(
-        alloc,
-        &build.image,
-        &mut hart,
-        &mut stack,
-        input,
-        limits.ticks,
-    )?;
+    let served = run(alloc, &code, &mut hart, &mut stack, input, limits.ticks)?;
     Ok(served)
 }
 
 /// Goes on to the end of the run, and counts the steps.
 fn run(
     alloc: Global,
-    image: &Image,
+    code: &Code,
     hart: &mut Hart,
     stack: &mut Stack,
     input: &[i32],
     ticks: u32,
 ) -> Result<Served, Memory>
     requires input { length input.now ≤ max_input_numbers }
-    requires run { (e : End) × (steps : ℕ) × RunEnds (InstructionAt image.now.words) input.now ticks (hart_machine (stack_view stack.old) hart.old) [] steps e }
+    requires run { (e : End) × (steps : ℕ) × RunEnds (InstructionAt code.now) input.now ticks (hart_machine (stack_view stack.old) hart.old) [] steps e }
     ensures { IfOk result (λ served. (e : End) (steps : ℕ)
-        → RunEnds (InstructionAt image.now.words) input.now ticks (hart_machine (stack_view stack.old) hart.old) [] steps e
+        → RunEnds (InstructionAt code.now) input.now ticks (hart_machine (stack_view stack.old) hart.old) [] steps e
         → (end_of served.ended ≡ e) × (served.steps ≡ steps)) }
 {
     let mut output = Output::new(alloc);
     'run: for before in 0..u64::MAX {
-        if let Some(stop) = turn(image, hart, stack, &mut output, input)? {
+        if let Some(stop) = turn(code, hart, stack, &mut output, input)? {
             return Ok(Served {
                 ended: ended(stop, hart, output, ticks),
                 steps: before + 1,
@@ -109,7 +102,7 @@ fn run(
 /// Does one step: the instruction at the pc, or the service that it asks for. Where the run is stopped, the answer tells how.
 #[inline(always)]
 fn turn(
-    image: &Image,
+    code: &Code,
     hart: &mut Hart,
     stack: &mut Stack,
     output: &mut Output,
@@ -117,12 +110,12 @@ fn turn(
 ) -> Result<Option<Stop>, Memory>
     requires input { length input.now ≤ max_input_numbers }
     requires run { (ticks : ℕ) × (e : End) × (steps : ℕ)
-        × RunEnds (InstructionAt image.now.words) input.now ticks (hart_machine (stack_view stack.old) hart.old) (numbers_of output.old) steps e }
+        × RunEnds (InstructionAt code.now) input.now ticks (hart_machine (stack_view stack.old) hart.old) (numbers_of output.old) steps e }
     ensures { IfOk result (λ stop. (ticks : ℕ) (e : End) (steps : ℕ)
-        → RunEnds (InstructionAt image.now.words) input.now ticks (hart_machine (stack_view stack.old) hart.old) (numbers_of output.old) steps e
-        → Leaves (InstructionAt image.now.words) input.now ticks stop (hart_machine (stack_view stack.new) hart.new) (numbers_of output.new) steps e) }
+        → RunEnds (InstructionAt code.now) input.now ticks (hart_machine (stack_view stack.old) hart.old) (numbers_of output.old) steps e
+        → Leaves (InstructionAt code.now) input.now ticks stop (hart_machine (stack_view stack.new) hart.new) (numbers_of output.new) steps e) }
 {
-    match step(hart, image, stack) {
+    match step(hart, code, stack) {
         Halt::Going => Ok(None),
         Halt::Service(service) => {
             let stop = serve(service, hart, output, input)?;

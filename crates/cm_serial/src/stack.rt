@@ -1,15 +1,14 @@
 //! The stack of a serial run, and the registers at its start.
 ghost use Rattle.std.specs.Prelude.{◌≡◌, ◌≤◌, IfOk, length, replicate};
-ghost use Rattle.cm_serial.specs.Stack.{first_registers, max_stack_words};
+ghost use Rattle.cm_meaning.specs.Range.{max_stack_words};
+ghost use Rattle.cm_serial.specs.Stack.{first_registers};
 
 use cm_isa::convention::{ACCOUNT, SP, TICKS};
 use cm_isa::{Regs, Shown, Words};
+use cm_maps::STACK_TOP;
 use cm_text::Memory;
 use std::alloc::Global;
 use std::marker::Model;
-
-/// The address just above the stack.
-const STACK_TOP: u32 = 0x4000_0000;
 
 /// The words of the stack, from the lowest address on. Contracts see a list of them.
 #[derive(Drop)]
@@ -19,7 +18,7 @@ pub(crate) struct Stack {
 
 impl Model for Stack {
     ghost use Rattle.std.specs.Prelude.{ℕ, List, ◌≤◌, vec_len};
-    ghost use Rattle.cm_serial.specs.Stack.{max_stack_words};
+    ghost use Rattle.cm_meaning.specs.Range.{max_stack_words};
 
     ghost Value = { List ℕ };
 
@@ -50,11 +49,10 @@ impl Words for Stack {
     ghost rest = { λ stack. length stack };
 
     fn show(&self, address: u32) -> Shown {
-        let low = STACK_TOP - 4 * self.words.len() as u32;
-        if address < low {
-            Shown::Outside
-        } else if address < STACK_TOP {
-            Shown::Place((address - low) / 4)
+        let size = 4 * self.words.len() as u32;
+        let offset = address.wrapping_sub(STACK_TOP - size);
+        if offset < size {
+            Shown::Place(offset / 4)
         } else {
             Shown::Outside
         }

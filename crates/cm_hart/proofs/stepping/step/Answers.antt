@@ -1,7 +1,5 @@
 -- What a step's answers tell, from what the effect of the fetched instruction is.
-use Rattle.std.proofs.Common.{List, ℕ, sym, subst}
 use Rattle.cm_isa.specs.Operation.{ecall}
-use Rattle.cm_isa.specs.Address.{InstructionAt}
 use Rattle.cm_hart.proofs.Outcome.{Answers, going_answers, jump_answers, machine_answers, service_answers}
 use Rattle.cm_hart.proofs.stepping.step.Given.{Over}
 use Rattle.cm_hart.proofs.stepping.step.Goals as goal
@@ -9,9 +7,9 @@ use Rattle.cm_hart.proofs.stepping.step.Goals.{After-execute}
 
 -- the fetched instruction is at the pc, and the answer is that of its effect
 answers : (g : Over) (c : After-execute g)
-    → Answers c.args.image.now.words (g.W.Words.view c.args.words.now) c.in-Ok.instr c.args.hart.now c.execute.result c.execute.new.hart (g.W.Words.view c.execute.new.words)
+    → Answers c.args.code.now (g.W.Words.view c.args.words.now) c.in-Ok.instr c.args.hart.now c.execute.result c.execute.new.hart (g.W.Words.view c.execute.new.words)
 answers g c = record {
-  there = subst (λ (words : List ℕ). InstructionAt words c.args.hart.now.pc c.in-Ok.instr) c.items.ensures c.in-Ok.ensures.cases;
+  there = c.in-Ok.ensures.cases;
   leaves = c.execute.ensures.outcome;
 }
 
@@ -37,14 +35,14 @@ pub returns-in-Err-clause-service : goal.returns-in-Err-clause-service
 returns-in-Err-clause-service g c = λ n. (
   (λ e. cc),
   (λ h.
-      let found = c.fetch.ensures.found ecall (subst (λ (words : List ℕ). InstructionAt words c.args.hart.now.pc ecall) (sym c.items.ensures) h.1) in
+      let found = c.fetch.ensures.found ecall h.1 in
       cc),
 )
 
 pub returns-in-Err-clause-machine : goal.returns-in-Err-clause-machine
 returns-in-Err-clause-machine g c = λ map m. (
   (λ step.
-      let found = c.fetch.ensures.found step.instruction (subst (λ (words : List ℕ). InstructionAt words c.args.hart.now.pc step.instruction) (sym c.items.ensures) step.there) in
+      let found = c.fetch.ensures.found step.instruction step.there in
       cc),
   (λ h. let going = h.0 in cc),
 )

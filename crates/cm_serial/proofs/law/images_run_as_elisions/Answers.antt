@@ -9,6 +9,7 @@ use Rattle.cm_meaning.proofs.SafetyLaw.{typed_start}
 use Rattle.cm_meaning.proofs.TypingLaw.{sound_typed}
 use Rattle.cm_gen.specs.declared.form.Form.TheVariants.{Serial}
 use Rattle.cm_gen.specs.Formed.{Formed, KeepsFormed}
+use Rattle.cm_gen.specs.Build.{max_image_words}
 use Rattle.cm_gen.specs.Image.{image_of}
 use Rattle.cm_gen.specs.StandsFor.{Spot, ExactAt, LeadsFrom}
 use Rattle.cm_serial.specs.Run.{stack_bytes}
@@ -21,7 +22,7 @@ returns c = λ program input limits words m e sound ranges few fits are short st
     let runs = runs_of program input limits sound ranges few fits in
     let code = InstructionAt words in
     let account = stack_bytes limits in
-    let compiled = c.images_are_compiled.ensures program Serial limits.page words sound are (code_within program Serial limits.page 200000 short) in
+    let compiled = c.images_are_compiled.ensures program Serial limits.page words sound are (code_within program Serial limits.page max_image_words short) in
     let takes : (spot : Spot) (left : ℕ) (d : Control) (h : Stack) (t : Machine) → left < 2 ^ 32 → Formed program limits.page account d h
     → ExactAt program Serial limits.page input code spot left d h t
     → LeadsFrom program Serial limits.page input code spot left d.calls h (step program limits.page input d h) t

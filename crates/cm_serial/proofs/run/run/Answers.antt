@@ -10,6 +10,6 @@ pub run-init : goal.run-init
 run-init c = λ e steps run. (
   steps,
   omega arith,
-  subst (λ entries. RunEnds (InstructionAt c.args.image.now.words) c.args.input.now c.args.ticks (hart_machine (stack_view c.args.stack.now) c.args.hart.now) (numbers_of entries) steps e)
+  subst (λ entries. RunEnds (InstructionAt c.args.code.now) c.args.input.now c.args.ticks (hart_machine (stack_view c.args.stack.now) c.args.hart.now) (numbers_of entries) steps e)
       (sym c.new-output.ensures) run,
 )

@@ -9,5 +9,5 @@ use Rattle.cm_serial.proofs.run.run.Given as goal
 
 -- each way in which the run ends from the start it ends from here, in fewer steps
 abbrev pub invariant-run : goal.invariant-run
-invariant-run l = (e : End) (steps : ℕ) → RunEnds (InstructionAt l.fn.image.words) l.fn.input l.fn.ticks (hart_machine (stack_view l.fn.stack) l.fn.hart) [] steps e
-    → (left : ℕ) × (steps ≡ l.before + left) × RunEnds (InstructionAt l.image.words) l.input l.ticks (hart_machine (stack_view l.stack) l.hart) (numbers_of l.output) left e
+invariant-run l = (e : End) (steps : ℕ) → RunEnds (InstructionAt l.fn.code) l.fn.input l.fn.ticks (hart_machine (stack_view l.fn.stack) l.fn.hart) [] steps e
+    → (left : ℕ) × (steps ≡ l.before + left) × RunEnds (InstructionAt l.code) l.input l.ticks (hart_machine (stack_view l.stack) l.hart) (numbers_of l.output) left e
