@@ -13,13 +13,23 @@ failed=0
 
 # --- The stand-in for rt -----------------------------------------------------------------------------------------
 
-# Says, builds and leaves behind what `rt run` does, as STAND_IN tells, and notes each call in CALLS.
+# Says, builds and leaves behind what `rt run` does, as STAND_IN tells, and notes each call in CALLS. `rt try` runs the
+# sources and builds nothing.
 mkdir "$room/bin"
 cat >"$room/bin/rt" <<'END'
 #!/usr/bin/env bash
 set -u
 made_from() { cat ../../crates.txt ../*/{src,specs,proofs}/*.* | cksum; }
 echo "$*" >>"$CALLS"
+if [ "${1-} ${2-}" = 'try --' ]; then
+    shift 2
+    [ "$STAND_IN" != endless ] || { echo 'run=no-answer proved=no' >&2 && exit 6; }
+    echo "interpreted: $(cat src/main.rt)"
+    printf '<%s>' "$@"
+    cat
+    echo 'run=ended status=3 runners=1 proved=no' >&2
+    exit 3
+fi
 [ "${1-} ${2-}" = 'run --' ] || exit 2
 shift 2
 exec 3>&1 >&2 # the program's output is rt's, and rt's own lines go to standard error
@@ -172,10 +182,31 @@ to its end'
 
 the_build_tells_each_crate() {
     runs_made_from 'first text'
-    is 'what is said' "$said" 'cilkm: proving and building the program; from nothing this takes some minutes
+    is 'what is said' "$(sed -E 's/[0-9]+ minutes and [0-9]+ seconds/so long/' <<<"$said")" 'cilkm: proving and building the program; from nothing this takes twenty minutes or longer
+cilkm: (`cilkm --try COMMAND ..` has the interpreter of the kit run small programs at once, unproved)
 cilkm: 1 of 3: base
 cilkm: 2 of 3: middle
-cilkm: 3 of 3: cilkm'
+cilkm: 3 of 3: cilkm
+cilkm: that took so long'
+}
+
+a_try_builds_nothing() {
+    start ./cilkm --try other 'two  words' <<<'a source'
+    is 'the status' "$?" 3
+    is 'the output' "$printed" 'interpreted: first text
+<other><two  words>a source'
+    has 'what is said' "$said" unproved
+    is 'the number of lines said' "$(wc -l <<<"$said")" 1
+    is 'the temporary folder' "$(ls temporary)" ''
+    [ ! -e crates/cilkm/out ] || is 'the folder out/' there 'not there'
+}
+
+a_try_without_end_ends_with_70() {
+    STAND_IN=endless
+    start ./cilkm --try serial <<<'a source'
+    is 'the status' "$?" 70
+    has 'what is said' "$said" 'run=no-answer'
+    is 'the temporary folder' "$(ls temporary)" ''
 }
 
 an_edited_source_is_built() {
@@ -383,6 +414,8 @@ at_the_top() {
 over_the_stand_in=(
     a_fresh_clone_builds_and_runs
     the_build_tells_each_crate
+    a_try_builds_nothing
+    a_try_without_end_ends_with_70
     an_edited_source_is_built
     a_touched_source_is_asked_for_once
     other_files_build_nothing

@@ -1,8 +1,8 @@
-pub mod CutLaws
-pub mod PieceLaws
-pub mod BuiltLaws
-pub mod SettingLaws
-pub mod AskedLaws
-pub mod SourceLaws
-pub mod StepsLaws
-pub mod StillLaws
+pub mod CutLaw
+pub mod PieceLaw
+pub mod BuiltLaw
+pub mod SettingLaw
+pub mod AskedLaw
+pub mod SourceLaw
+pub mod StepsLaw
+pub mod StillLaw

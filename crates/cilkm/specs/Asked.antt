@@ -3,7 +3,8 @@ use Rattle.std.specs.Prelude.{◌≡◌, ℕ, List, ◌∷◌, codes, map, Optio
 use Rattle.std.specs.Str.{bytes_eq}
 use Rattle.std.specs.Borrow.{Bor}
 use Rattle.cm_meaning.specs.Ended.{limits_of}
-use Rattle.cm_meaning.specs.Range.{IsPage, HasRanges}
+use Rattle.cm_maps.specs.Pages.{IsPage}
+use Rattle.cm_meaning.specs.Range.{HasRanges}
 use Rattle.cilkm.specs.Setting.{AreSettings, page_given, form_given, limits_given, stat_given}
 use Rattle.cilkm.specs.declared.setting.Setting.{Setting}
 use Rattle.cilkm.specs.declared.command.Command.{Command}

@@ -6,7 +6,7 @@ use Rattle.std.specs.Str.{bytes_eq}
 use Rattle.cm_gen.specs.declared.form.Form.{Form}
 use Rattle.cm_gen.specs.declared.form.Form.TheVariants as form
 use Rattle.cm_meaning.specs.declared.ended.Limits.{Limits}
-use Rattle.cm_meaning.specs.Range.{IsPage}
+use Rattle.cm_maps.specs.Pages.{IsPage}
 use Rattle.cilkm.specs.declared.command.Name.{Name}
 use Rattle.cilkm.specs.declared.command.Name.TheVariants as name
 use Rattle.cilkm.specs.declared.setting.Key.{Key}

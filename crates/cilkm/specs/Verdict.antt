@@ -16,6 +16,7 @@ use Rattle.cm_gen.specs.Build.{max_image_words}
 use Rattle.cm_gen.specs.Image.{image_of}
 use Rattle.cm_isa.specs.Address.{AreWordsOf}
 use Rattle.cm_serial.specs.Run.{IsSteps}
+use Rattle.cilkm.specs.Asked.{Asks}
 use Rattle.cilkm.specs.Cut.{max_input, IsCut}
 use Rattle.cilkm.specs.Pieces.{pieces_behind, HaveValues, IsWrongAt}
 use Rattle.cilkm.specs.Source.{HasAccepted, IsRefusedBy, BuildsAs}
@@ -205,3 +206,17 @@ pub record IsDecided (status : ℕ) : Type 0 where
   pub not_read : status ≡ 5 → ⊥
   pub not_write : status ≡ 6 → ⊥
   pub not_memory : status ≡ 7 → ⊥
+
+-- ---- all goes well
+
+-- The words are this command; standard input is told, is not too long, and its source is accepted and has this program; and
+-- neither stream failed.
+pub record GoesWell (words : List (List ℕ)) (command : Command) (told : Option (List ℕ)) (input source : List ℕ) (program : Program)
+    (reads_before reads_now writes_before writes_now : ℕ) : Type 0 where
+  pub asked : Asks words command
+  pub told_is : told ≡ Some input
+  pub short : length input ≤ max_input
+  pub cut : IsCut input source
+  pub accepted : HasAccepted source program
+  pub no_read_failed : Rose reads_before reads_now → ⊥
+  pub no_write_failed : Rose writes_before writes_now → ⊥

@@ -1,19 +1,16 @@
 //! The images that are made of programs, and their listings.
 ghost use Rattle.std.specs.Prelude.{IfOk, IfErr};
-ghost use Rattle.cm_meaning.specs.Range.{IsPage};
+ghost use Rattle.cm_maps.specs.Pages.{IsPage};
 ghost use Rattle.cilkm.specs.Built.{IsCompiled};
 ghost use Rattle.cilkm.specs.Source.{IsStopOfBuild};
 
 use crate::refusal::Stop;
 use cm_asm::{Image, list};
-use cm_gen::{Build, Form, make};
+use cm_gen::{Build, Form, MAX_IMAGE_WORDS, make};
 use cm_syntax::Checked;
 use cm_text::{Bytes, Memory};
 use std::alloc::Global;
 use std::marker::Model;
-
-/// The most words of an image.
-const MAX_WORDS: usize = 200_000;
 
 /// An image of at most 200,000 words. Contracts see its words.
 #[derive(Debug, Drop)]
@@ -44,7 +41,7 @@ impl BuiltImage {
         ensures each { (k : ℕ) → slice_index result k < 2 ^ 32 }
     {
         let words = image.words.items();
-        prove!(words.len() <= MAX_WORDS);
+        prove!(words.len() <= MAX_IMAGE_WORDS);
         BuiltImage { image }
     }
 

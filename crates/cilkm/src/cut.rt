@@ -1,5 +1,5 @@
 //! Which bytes of standard input are the source.
-ghost use Rattle.std.specs.Prelude.{◌≤◌, ◌↔◌, IsTrue, length, take};
+ghost use Rattle.std.specs.Prelude.{◌≡◌, ◌≤◌, ◌↔◌, ℕ, IsTrue, List, length, take};
 ghost use Rattle.cilkm.specs.Cut.{AreLines, EndsLine, BeginsMark, IsCut};
 
 /// The source in standard input: the bytes before the first line whose bytes are `%%`, with or without a carriage
@@ -45,3 +45,8 @@ fn ends_line(bytes: &[u8]) -> bool
         [first, ..] => *first == b'\n',
     }
 }
+
+/// A text has one source at most.
+pub fn one_source()
+    ensures { (input a b : List ℕ) → IsCut input a → IsCut input b → a ≡ b }
+{}

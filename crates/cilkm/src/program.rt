@@ -2,7 +2,7 @@
 ghost use Rattle.std.specs.Prelude.{IfOk, IfErr};
 ghost use Rattle.cilkm.specs.declared.command.Command.TheVariants as commands;
 ghost use Rattle.cilkm.specs.Source.{HasProgram, HasAccepted, BuildsAs, CompilesAs, IsStopOf};
-ghost use Rattle.cm_meaning.specs.Range.{IsPage};
+ghost use Rattle.cm_maps.specs.Pages.{IsPage};
 
 use crate::built::{BuiltImage, compile};
 use crate::refusal::Stop;

@@ -1,14 +1,14 @@
 //! The top call: from the words and standard input to the status and standard output.
-ghost use Rattle.std.specs.Prelude.{◌≡◌, ◌≢◌, ℕ, ℤ, ◌≤◌, ◌⊎◌, Bool, Option, Some, IfOk, IfSome, length, List};
+ghost use Rattle.std.specs.Prelude.{◌≡◌, ◌≢◌, ℕ, ℤ, ◌≤◌, ◌⊎◌, Bool, Option, None, Some, IfOk, IfSome, length, List};
 ghost use Rattle.std.specs.IoError.{error_kind};
-ghost use Rattle.cm_text.specs.Count.{Rose};
 ghost use Rattle.cm_syntax.specs.declared.stmt.Program.{Program};
 ghost use Rattle.cm_meaning.specs.Ended.{end_of, limits_of};
 ghost use Rattle.cm_meaning.specs.Meaning.{SerialEnd};
-ghost use Rattle.cm_meaning.specs.Range.{IsPage, HasRanges};
+ghost use Rattle.cm_maps.specs.Pages.{IsPage};
+ghost use Rattle.cm_meaning.specs.Range.{HasRanges};
 ghost use Rattle.cm_meaning.specs.declared.ended.Ended.{Ended as End};
 ghost use Rattle.cm_meaning.specs.declared.ended.Limits.{Limits as LimitsOf};
-ghost use Rattle.cilkm.specs.Asked.{texts, Asks, AsksOrNot, IsWithin};
+ghost use Rattle.cilkm.specs.Asked.{texts, AsksOrNot, IsWithin};
 ghost use Rattle.cm_gen.specs.declared.form.Form.{Form as FormOf};
 ghost use Rattle.cm_gen.specs.declared.form.Form.TheVariants as forms;
 ghost use Rattle.cilkm.specs.Built.{max_short_source, IsImageOf, IsLong};
@@ -20,7 +20,7 @@ ghost use Rattle.cilkm.specs.declared.command.Command.TheVariants as commands;
 ghost use Rattle.cilkm.specs.declared.refusal.Refusal.TheVariants as refusals;
 ghost use Rattle.cilkm.specs.declared.verdict.Verdict.{Verdict};
 ghost use Rattle.cilkm.specs.declared.verdict.Verdict.TheVariants as verdicts;
-ghost use Rattle.cilkm.specs.Verdict.{verdict_text, verdict_of, Means, IsCaused, IsServed, Says, GoesOut, Tells, IsDecided};
+ghost use Rattle.cilkm.specs.Verdict.{verdict_text, verdict_of, Means, IsCaused, IsServed, Says, GoesOut, Tells, IsDecided, GoesWell};
 
 use crate::command::{self, Command};
 use crate::cut::source_of;
@@ -53,47 +53,51 @@ pub fn still<I: Source, O: Sink>(alloc: Global, words: &[&str], source: &mut I, 
 
     // Of an accepted source `build` prints the listing of its program's image in the form and with the page asked for,
     // exactly where that has at most 200,000 words, and else `refused 0 long`, unless a stream fails or memory runs out.
-    ensures build { (form : FormOf) (page : ℕ) → Asks (texts words.now) (commands.Build form page) → IfSome (I.left source.old) (λ input.
-        (text : List ℕ) (program : Program) → length input ≤ max_input → IsCut input text → HasAccepted text program
-        → (Rose (I.faults source.old) (I.faults source.new) → ⊥) → (Rose (O.faults sink.old) (O.faults sink.new) → ⊥)
+    ensures build { (form : FormOf) (page : ℕ) (input text : List ℕ) (program : Program)
+        → GoesWell (texts words.now) (commands.Build form page) (I.left source.old) input text program
+        (I.faults source.old) (I.faults source.new) (O.faults sink.old) (O.faults sink.new)
         → ((image : List ℕ) × IsImageOf program form page image × Says (verdicts.Listing image) result (O.taken sink.old) (O.taken sink.new))
         ⊎ (IsLong program form page × Says (verdicts.Refused 0 refusals.Long) result (O.taken sink.old) (O.taken sink.new))
-        ⊎ Says verdicts.Memory result (O.taken sink.old) (O.taken sink.new)) }
+        ⊎ Says verdicts.Memory result (O.taken sink.old) (O.taken sink.new) }
 
     // The image of a source of at most 8,192 bytes is never too long.
-    ensures short_sources_are_built { (form : FormOf) (page : ℕ) → Asks (texts words.now) (commands.Build form page) → IfSome (I.left source.old) (λ input.
-        (text : List ℕ) (program : Program) → length input ≤ max_input → IsCut input text → HasAccepted text program → length text ≤ max_short_source
-        → (Rose (I.faults source.old) (I.faults source.new) → ⊥) → (Rose (O.faults sink.old) (O.faults sink.new) → ⊥)
+    ensures short_sources_are_built { (form : FormOf) (page : ℕ) (input text : List ℕ) (program : Program)
+        → GoesWell (texts words.now) (commands.Build form page) (I.left source.old) input text program
+        (I.faults source.old) (I.faults source.new) (O.faults sink.old) (O.faults sink.new)
+        → length text ≤ max_short_source
         → ((image : List ℕ) × IsImageOf program form page image × Says (verdicts.Listing image) result (O.taken sink.old) (O.taken sink.new))
-        ⊎ Says verdicts.Memory result (O.taken sink.old) (O.taken sink.new)) }
+        ⊎ Says verdicts.Memory result (O.taken sink.old) (O.taken sink.new) }
 
     // Of an accepted source with numbers behind it `serial` prints the end of the serial elision, and with `stat=1` the
     // number of steps behind it, exactly where its image in the serial form has at most 200,000 words, and else
     // `refused 0 long`, unless a stream fails or memory runs out.
-    ensures serial { (limits : LimitsOf) (stat : Bool) → Asks (texts words.now) (commands.Serial limits stat) → IfSome (I.left source.old) (λ input.
-        (text : List ℕ) (program : Program) (numbers : List ℤ) → length input ≤ max_input → IsCut input text
-        → HasAccepted text program → HaveValues (pieces_behind input text) numbers
-        → (Rose (I.faults source.old) (I.faults source.new) → ⊥) → (Rose (O.faults sink.old) (O.faults sink.new) → ⊥)
+    ensures serial { (limits : LimitsOf) (stat : Bool) (input text : List ℕ) (program : Program) (numbers : List ℤ)
+        → GoesWell (texts words.now) (commands.Serial limits stat) (I.left source.old) input text program
+        (I.faults source.old) (I.faults source.new) (O.faults sink.old) (O.faults sink.new)
+        → HaveValues (pieces_behind input text) numbers
         → ((said : Verdict) × IsServed stat program numbers limits said × Says said result (O.taken sink.old) (O.taken sink.new))
         ⊎ (IsLong program forms.Serial limits.page × Says (verdicts.Refused 0 refusals.Long) result (O.taken sink.old) (O.taken sink.new))
-        ⊎ Says verdicts.Memory result (O.taken sink.old) (O.taken sink.new)) }
+        ⊎ Says verdicts.Memory result (O.taken sink.old) (O.taken sink.new) }
 
     // The image of a source of at most 8,192 bytes is never too long.
-    ensures short_sources_are_run { (limits : LimitsOf) (stat : Bool) → Asks (texts words.now) (commands.Serial limits stat) → IfSome (I.left source.old) (λ input.
-        (text : List ℕ) (program : Program) (numbers : List ℤ) → length input ≤ max_input → IsCut input text
-        → HasAccepted text program → HaveValues (pieces_behind input text) numbers → length text ≤ max_short_source
-        → (Rose (I.faults source.old) (I.faults source.new) → ⊥) → (Rose (O.faults sink.old) (O.faults sink.new) → ⊥)
+    ensures short_sources_are_run { (limits : LimitsOf) (stat : Bool) (input text : List ℕ) (program : Program) (numbers : List ℤ)
+        → GoesWell (texts words.now) (commands.Serial limits stat) (I.left source.old) input text program
+        (I.faults source.old) (I.faults source.new) (O.faults sink.old) (O.faults sink.new)
+        → HaveValues (pieces_behind input text) numbers → length text ≤ max_short_source
         → ((said : Verdict) × IsServed stat program numbers limits said × Says said result (O.taken sink.old) (O.taken sink.new))
-        ⊎ Says verdicts.Memory result (O.taken sink.old) (O.taken sink.new)) }
+        ⊎ Says verdicts.Memory result (O.taken sink.old) (O.taken sink.new) }
 
     // Of an accepted source with numbers behind it `mean` prints the end of the serial elision, unless a stream fails or
     // memory runs out.
-    ensures mean { (limits : LimitsOf) → Asks (texts words.now) (commands.Mean limits) → IfSome (I.left source.old) (λ input.
-        (text : List ℕ) (program : Program) (numbers : List ℤ) → length input ≤ max_input → IsCut input text
-        → HasAccepted text program → HaveValues (pieces_behind input text) numbers
-        → (Rose (I.faults source.old) (I.faults source.new) → ⊥) → (Rose (O.faults sink.old) (O.faults sink.new) → ⊥)
+    ensures mean { (limits : LimitsOf) (input text : List ℕ) (program : Program) (numbers : List ℤ)
+        → GoesWell (texts words.now) (commands.Mean limits) (I.left source.old) input text program
+        (I.faults source.old) (I.faults source.new) (O.faults sink.old) (O.faults sink.new)
+        → HaveValues (pieces_behind input text) numbers
         → ((end : End) × SerialEnd program numbers (limits_of limits) (end_of end) × Says (verdicts.Ended end) result (O.taken sink.old) (O.taken sink.new))
-        ⊎ Says verdicts.Memory result (O.taken sink.old) (O.taken sink.new)) }
+        ⊎ Says verdicts.Memory result (O.taken sink.old) (O.taken sink.new) }
+
+    // Wrong words are answered before standard input is read: the source is what it was.
+    ensures wrong_words_read_nothing { AsksOrNot (texts words.now) None → source.new ≡ source.old }
 
     ensures source_kept { I.faults source.old ≤ I.faults source.new }
     ensures sink_kept { O.faults sink.old ≤ O.faults sink.new }
@@ -120,6 +124,7 @@ pub fn refuse_words<O: Sink>(alloc: Global, error: &io::Error, sink: &mut O) -> 
 fn judge<I: Source>(alloc: Global, words: &[&str], source: &mut I) -> Verdict
     ensures cause { (command : Option Command) × AsksOrNot (texts words.now) command
         × IsCaused command (I.left source.old) (I.faults source.old) (I.faults source.new) result }
+    ensures unread { AsksOrNot (texts words.now) None → source.new ≡ source.old }
     ensures kept { I.faults source.old ≤ I.faults source.new }
 {
     match command::parse(words) {

@@ -1,5 +1,5 @@
 use Rattle.std.proofs.Common.{sym, ◌∙◌}
-use Rattle.cilkm.proofs.AskedLaws.{asked_with, within}
+use Rattle.cilkm.proofs.AskedLaw.{asked_with, within}
 use Rattle.cilkm.proofs.command.parse.Goals as goal
 
 pub returns-in-Some-read_settings-clause-asked : goal.returns-in-Some-read_settings-clause-asked

@@ -1,4 +1,4 @@
-use Rattle.cilkm.proofs.CutLaws.{NoneBefore}
+use Rattle.cilkm.proofs.CutLaw.{NoneBefore}
 use Rattle.cilkm.proofs.cut.source_of.Given as goal
 
 abbrev pub invariant-loop-at : goal.invariant-loop-at

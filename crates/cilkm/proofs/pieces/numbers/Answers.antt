@@ -1,6 +1,6 @@
 use Rattle.std.proofs.Common.{sym, ◌∙◌, subst, List, drop, true}
 use Rattle.cilkm.specs.Pieces.{Piece, pieces}
-use Rattle.cilkm.proofs.PieceLaws.{Read, piece_at, one_read, wrong_read, stops_at}
+use Rattle.cilkm.proofs.PieceLaw.{Read, piece_at, one_read, wrong_read, stops_at}
 use Rattle.cilkm.proofs.pieces.numbers.Goals as goal
 
 pub returns-in_err-value-clause-stop : goal.returns-in_err-value-clause-stop

@@ -1,6 +1,6 @@
 use Rattle.std.proofs.Common.{◌-◌, length, drop, true}
 use Rattle.cilkm.specs.Pieces.{pieces}
-use Rattle.cilkm.proofs.PieceLaws.{Read}
+use Rattle.cilkm.proofs.PieceLaw.{Read}
 use Rattle.cilkm.proofs.pieces.numbers.Given as goal
 
 abbrev pub decreases-loop-at : goal.decreases-loop-at

@@ -1,4 +1,4 @@
-use Rattle.cilkm.proofs.PieceLaws.{IsInside}
+use Rattle.cilkm.proofs.PieceLaw.{IsInside}
 use Rattle.cilkm.proofs.pieces.piece_length.Given as goal
 
 abbrev pub invariant-loop-at : goal.invariant-loop-at

@@ -1,4 +1,4 @@
-use Rattle.cilkm.proofs.PieceLaws.{behind_feed, behind_both, behind_last, behind_returned, behind_none}
+use Rattle.cilkm.proofs.PieceLaw.{behind_feed, behind_both, behind_last, behind_returned, behind_none}
 use Rattle.cilkm.proofs.pieces.pieces_behind_the_line.Goals as goal
 
 pub returns-clause-feed : goal.returns-clause-feed

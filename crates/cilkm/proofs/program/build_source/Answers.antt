@@ -1,7 +1,7 @@
 use Rattle.std.proofs.Common.{arith, ℕ, List, length, ap, sym, subst}
 use Rattle.cm_isa.specs.Address.{AreWordsOf}
 use Rattle.cm_gen.specs.Image.{image_of}
-use Rattle.cilkm.proofs.BuiltLaws.{as_many}
+use Rattle.cilkm.proofs.BuiltLaw.{as_many}
 use Rattle.cilkm.proofs.program.build_source.Goals as goal
 
 pub of-requires : goal.of-requires

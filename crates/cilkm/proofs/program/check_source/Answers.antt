@@ -1,6 +1,6 @@
 use Rattle.cilkm.specs.declared.command.Command.TheVariants.{Check}
 use Rattle.cilkm.specs.Source.{IsStopOf, stop_of_lending}
-use Rattle.cilkm.proofs.SourceLaws.{handed_on, stops_lending}
+use Rattle.cilkm.proofs.SourceLaw.{handed_on, stops_lending}
 use Rattle.cilkm.proofs.program.check_source.Goals as goal
 
 pub returns-in_err-checked-clause-stop : goal.returns-in_err-checked-clause-stop

@@ -1,5 +1,5 @@
 use Rattle.std.proofs.Common.{refl}
-use Rattle.cilkm.proofs.SourceLaws.{compiles_as, stops_making}
+use Rattle.cilkm.proofs.SourceLaw.{compiles_as, stops_making}
 use Rattle.cilkm.proofs.program.compile_source.Goals as goal
 
 pub returns-clause-compiled : goal.returns-clause-compiled

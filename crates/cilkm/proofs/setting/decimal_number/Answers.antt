@@ -1,7 +1,7 @@
 use Rattle.std.proofs.Common.{sym, ◌∙◌, subst}
 use Rattle.std.proofs.lemmas.Bool.{true≢false}
 use Rattle.cilkm.specs.Setting.{IsPlain}
-use Rattle.cilkm.proofs.SettingLaws.{plain_parsed, decimal_parsed, decimal_is_plain}
+use Rattle.cilkm.proofs.SettingLaw.{plain_parsed, decimal_parsed, decimal_is_plain}
 use Rattle.cilkm.proofs.setting.decimal_number.Goals as goal
 
 pub returns-then-is_plain-clause-some : goal.returns-then-is_plain-clause-some

@@ -2,7 +2,7 @@ use Rattle.std.proofs.Common.{sym, ap, ◌∙◌}
 use Rattle.std.specs.Option.{is_some}
 use Rattle.std.proofs.lemmas.Bool.{false≢true}
 use Rattle.cilkm.specs.Asked.{texts}
-use Rattle.cilkm.proofs.SettingLaws.{word_here, one_taken, key_again, no_setting}
+use Rattle.cilkm.proofs.SettingLaw.{word_here, one_taken, key_again, no_setting}
 use Rattle.cilkm.proofs.setting.read_settings.Goals as goal
 
 pub returns-in_default-clause-none : goal.returns-in_default-clause-none

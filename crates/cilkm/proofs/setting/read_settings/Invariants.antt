@@ -1,5 +1,5 @@
 use Rattle.cilkm.specs.Asked.{texts}
-use Rattle.cilkm.proofs.SettingLaws.{Taken}
+use Rattle.cilkm.proofs.SettingLaw.{Taken}
 use Rattle.cilkm.proofs.setting.read_settings.Given as goal
 
 abbrev pub decreases-loop-at : goal.decreases-loop-at

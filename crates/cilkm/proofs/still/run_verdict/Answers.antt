@@ -1,4 +1,4 @@
-use Rattle.cilkm.proofs.StillLaws.{run_is_served}
+use Rattle.cilkm.proofs.StillLaw.{run_is_served}
 use Rattle.cilkm.proofs.still.run_verdict.Goals as goal
 
 pub returns-in_ok-ended-in-Ok : goal.returns-in_ok-ended-in-Ok

@@ -1,6 +1,6 @@
 use Rattle.std.proofs.Common.{subst, Some}
 use Rattle.cilkm.specs.Verdict.{Means}
-use Rattle.cilkm.proofs.StillLaws.{cause_from_bytes}
+use Rattle.cilkm.proofs.StillLaw.{cause_from_bytes}
 use Rattle.cilkm.proofs.still.source_verdict.Goals as goal
 
 pub returns-clause-cause : goal.returns-clause-cause

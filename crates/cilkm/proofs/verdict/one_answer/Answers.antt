@@ -1,4 +1,4 @@
-use Rattle.cilkm.proofs.StillLaws.{one_answer}
+use Rattle.cilkm.proofs.StillLaw.{one_answer}
 use Rattle.cilkm.proofs.verdict.one_answer.Goals as goal
 
 pub returns : goal.returns

@@ -7,7 +7,7 @@ use Rattle.cm_syntax.specs.declared.stmt.Program.{Program}
 use Rattle.cm_syntax.specs.Refusal as text
 use Rattle.cm_syntax.specs.Fault.{Variant, Fault, IsNameAnswer, IsSoundProgram, fault_at, faults, program_of}
 use Rattle.cm_syntax.proofs.refusing.OneAnswer.{IsAnswer-one, IsNameAnswer-one}
-use Rattle.cm_syntax.proofs.machine.trace.OneTree.{IsSourceOf-one}
+use Rattle.cm_syntax.proofs.parser.trace.OneTree.{IsSourceOf-one}
 use Rattle.cm_syntax.specs.Lending.{IsLentAmong, IsSameAmong}
 use Rattle.cm_lend.specs.declared.breach.Breach.{Breach}
 use Rattle.cm_lend.specs.declared.breach.Breach.TheVariants as breach
@@ -19,15 +19,15 @@ use Rattle.cm_gen.specs.declared.build.Build.{Build as BuildOf}
 use Rattle.cm_gen.specs.declared.form.Form.{Form}
 use Rattle.cm_gen.specs.declared.form.Form.TheVariants as forms
 use Rattle.cm_gen.specs.Image.{image_of}
-use Rattle.cm_gen.proofs.BoundLaw.{source_bound}
-use Rattle.cilkm.specs.Built.{max_short_source, IsCompiled, IsImageOf, IsLong}
+use Rattle.cm_gen.proofs.sizes.BoundLaw.{source_bound}
+use Rattle.cilkm.specs.Built.{max_short_source, IsCompiled, IsLong}
 use Rattle.cilkm.specs.declared.command.Command.{Command}
 use Rattle.cilkm.specs.declared.command.Command.TheVariants.{Check, Build, Serial, Mean}
 use Rattle.cilkm.specs.declared.refusal.Refusal.{Refusal}
 use Rattle.cilkm.specs.declared.refusal.Refusal.TheVariants as refusal
 use Rattle.cilkm.specs.declared.refusal.Stop.{Stop}
 use Rattle.cilkm.specs.declared.refusal.Stop.TheVariants as stop
-use Rattle.cilkm.specs.Source.{HasTree, IsMisnamed, HasProgram, HasAccepted, HasLong, BuildsAs, CompilesAs, IsRefused, IsNotCompiled, IsRefusedBy, IsStopOf, IsStopOfBuild, stop_of_lending}
+use Rattle.cilkm.specs.Source.{HasTree, IsMisnamed, HasProgram, HasAccepted, HasLong, CompilesAs, IsRefused, IsNotCompiled, IsRefusedBy, IsStopOf, IsStopOfBuild, stop_of_lending}
 
 HasTree-one : (source : List ℕ) (x y : Tree) → HasTree source x → HasTree source y → x ≡ y
 HasTree-one source x y a b = IsSourceOf-one source x y a.parses b.parses
@@ -65,12 +65,6 @@ pub accepted_and_long : (source : List ℕ) (program : Program) (form : Form) (p
 accepted_and_long source program form page at refusal.Long x y =
     (y.0, refl, subst (λ (p : Program). IsLong p form page) (HasProgram-one source y.1.0 program y.1.1.named x.named) y.1.2)
 accepted_and_long source program form page at why x y = absurd (accepted_or_refused source program at why x y)
-
--- the image is that of any program of the source
-pub image_at : (source : List ℕ) (program : Program) (form : Form) (page : ℕ) (words : List ℕ) → HasAccepted source program
-    → BuildsAs source form page words → IsImageOf program form page words
-image_at source program form page words x y =
-    subst (λ (p : Program). IsImageOf p form page words) (HasProgram-one source y.0 program y.1.named x.named) y.2
 
 -- the image of a short source isn't too long
 pub short_or_long : (source : List ℕ) (program : Program) (form : Form) (page : ℕ) → HasAccepted source program → length source ≤ max_short_source
@@ -175,12 +169,6 @@ IsRefused-one (Build form page) source i j a b x y =
 IsRefused-one (Serial limits stat) source i j a b x y =
     one_build_cause source forms.Serial limits.page i j a b (build_cause source forms.Serial limits.page i a x) (build_cause source forms.Serial limits.page j b y)
 IsRefused-one (Mean limits) source i j a b x y = by_one_cause source i j a b x y
-
--- why `check` stops, `build` stops as well
-pub stops_build : (source : List ℕ) (form : Form) (page : ℕ) (why : Stop) → IsStopOf Check source why → IsStopOf (Build form page) source why
-stops_build source form page (stop.Refused at refusal.Long) x = absurd x
-stops_build source form page (stop.Refused at why) x = x
-stops_build source form page stop.Memory x = tt
 
 -- why the program of an accepted source isn't built, `build` stops
 pub stops_making : {A : Type 0} (source : List ℕ) (program same : Program) (form : Form) (page : ℕ) (r : Result A Stop) → HasAccepted source program → same ≡ program

@@ -1,6 +1,6 @@
 -- From what a command comes to, to its verdict, and from the verdict to the status.
-use Rattle.std.proofs.Common.{◌≡◌, ℕ, ◌≤◌, List, length, Option, Some, None, ◌++◌, refl, sym, ap, ◌∙◌, subst, arith, rules, inl, inr}
-use Rattle.std.specs.Prelude.{ℤ, ◌⊎◌, Bool, true, false, IfSome, codes, map}
+use Rattle.std.proofs.Common.{◌≡◌, ℕ, ◌<◌, ◌≤◌, List, length, Option, Some, None, ◌++◌, refl, sym, ap, ◌∙◌, subst, arith, rules, inl, inr}
+use Rattle.std.specs.Prelude.{ℤ, ◌⊎◌, Bool, true, false, IfSome, codes}
 use Rattle.std.specs.Fmt.{signed_decimal}
 use Rattle.cm_text.specs.Count.{Rose}
 use Rattle.cm_syntax.specs.declared.stmt.Program.{Program}
@@ -16,7 +16,6 @@ use Rattle.cm_meaning.specs.Output.{numbers_of}
 use Rattle.cm_meaning.specs.Ended.{limits_of, end_of, trap_of, trap_line, lines}
 use Rattle.cm_meaning.specs.Meaning.{SerialEnd, first_control}
 use Rattle.cm_meaning.proofs.EndLaw.{one_end}
-use Rattle.cm_asm.specs.Listing.{listing}
 use Rattle.cm_gen.specs.declared.build.Build.{Build as BuildOf}
 use Rattle.cm_gen.specs.declared.form.Form.{Form}
 use Rattle.cm_gen.specs.declared.form.Form.TheVariants as forms
@@ -25,8 +24,8 @@ use Rattle.cm_gen.specs.Image.{image_of}
 use Rattle.cm_serial.specs.Run.{IsSteps}
 use Rattle.cilkm.specs.Built.{max_short_source, IsImageOf, IsLong}
 use Rattle.cilkm.specs.Cut.{max_input, IsCut}
-use Rattle.cilkm.specs.Pieces.{pieces_behind, piece_value, HaveValues, IsWrongAt}
-use Rattle.cilkm.specs.Source.{HasProgram, HasAccepted, IsRefused, IsNotCompiled, IsRefusedBy, BuildsAs, CompilesAs}
+use Rattle.cilkm.specs.Pieces.{Piece, pieces_behind, HaveValues, IsWrongAt}
+use Rattle.cilkm.specs.Source.{HasProgram, HasAccepted, IsNotCompiled, IsRefusedBy, CompilesAs}
 use Rattle.cilkm.specs.declared.command.Command.{Command}
 use Rattle.cilkm.specs.declared.command.Command.TheVariants.{Check, Build, Serial, Mean}
 use Rattle.cilkm.specs.declared.refusal.Refusal.{Refusal}
@@ -34,12 +33,12 @@ use Rattle.cilkm.specs.declared.refusal.Refusal.TheVariants as refusal
 use Rattle.cilkm.specs.declared.verdict.Verdict.{Verdict}
 use Rattle.cilkm.specs.declared.verdict.Verdict.TheVariants.{Usage, Read, Long, Refused, Input, Accepted, Listing, Ended, Counted, Memory}
 use Rattle.cilkm.specs.Asked.{AsksOrNot}
-use Rattle.cilkm.specs.Verdict.{verdict_text, verdict_status, verdict_of, steps_line, IsDecided, HasWrongPiece, HasEnd, IsServed, HasServed, Brings, Means, IsCaused, AnswersSame, Says, GoesOut, Tells}
-use Rattle.cilkm.proofs.CutLaws.{IsCut-one}
-use Rattle.cilkm.proofs.PieceLaws.{wrong_once, wrong_or_values}
-use Rattle.cilkm.proofs.BuiltLaws.{one_image, built_or_long}
-use Rattle.cilkm.proofs.StepsLaws.{HasSteps-one}
-use Rattle.cilkm.proofs.SourceLaws.{HasProgram-one, IsRefused-one, accepted_or_refused, accepted_and_long, image_at, short_or_long}
+use Rattle.cilkm.specs.Verdict.{verdict_text, verdict_status, verdict_of, steps_line, IsDecided, IsServed, HasServed, Brings, Means, IsCaused, AnswersSame, Says, GoesOut, Tells}
+use Rattle.cilkm.proofs.CutLaw.{IsCut-one}
+use Rattle.cilkm.proofs.PieceLaw.{wrong_once, wrong_or_values}
+use Rattle.cilkm.proofs.BuiltLaw.{one_image, built_or_long}
+use Rattle.cilkm.proofs.StepsLaw.{HasSteps-one}
+use Rattle.cilkm.proofs.SourceLaw.{HasProgram-one, IsRefused-one, accepted_or_refused, accepted_and_long, short_or_long}
 
 -- what the bytes mean is the cause, where they are those that the source told
 pub cause_from_bytes : (verdict : Verdict) (command : Command) (bytes : List ℕ) (input : Option (List ℕ)) (before now : ℕ) → Means (Some command) bytes verdict
@@ -47,20 +46,8 @@ pub cause_from_bytes : (verdict : Verdict) (command : Command) (bytes : List ℕ
 cause_from_bytes Usage command bytes input before now means told = absurd means
 cause_from_bytes Read command bytes input before now means told = absurd means
 cause_from_bytes Memory command bytes input before now means told = tt
-cause_from_bytes Long command bytes None before now means told = (search rules, tt)
-cause_from_bytes Long command bytes (Some all) before now means told = (search rules, subst (λ b. Means (Some command) b Long) told means)
-cause_from_bytes (Refused offset why) command bytes None before now means told = (search rules, tt)
-cause_from_bytes (Refused offset why) command bytes (Some all) before now means told = (search rules, subst (λ b. Means (Some command) b (Refused offset why)) told means)
-cause_from_bytes (Input at) command bytes None before now means told = (search rules, tt)
-cause_from_bytes (Input at) command bytes (Some all) before now means told = (search rules, subst (λ b. Means (Some command) b (Input at)) told means)
-cause_from_bytes Accepted command bytes None before now means told = (search rules, tt)
-cause_from_bytes Accepted command bytes (Some all) before now means told = (search rules, subst (λ b. Means (Some command) b Accepted) told means)
-cause_from_bytes (Listing words) command bytes None before now means told = (search rules, tt)
-cause_from_bytes (Listing words) command bytes (Some all) before now means told = (search rules, subst (λ b. Means (Some command) b (Listing words)) told means)
-cause_from_bytes (Ended end) command bytes None before now means told = (search rules, tt)
-cause_from_bytes (Ended end) command bytes (Some all) before now means told = (search rules, subst (λ b. Means (Some command) b (Ended end)) told means)
-cause_from_bytes (Counted end steps) command bytes None before now means told = (search rules, tt)
-cause_from_bytes (Counted end steps) command bytes (Some all) before now means told = (search rules, subst (λ b. Means (Some command) b (Counted end steps)) told means)
+cause_from_bytes verdict command bytes None before now means told = (search rules, tt)
+cause_from_bytes verdict command bytes (Some all) before now means told = (search rules, subst (λ b. Means (Some command) b verdict) told means)
 
 -- what was said has its cause too, since want of memory needs none
 pub answer_with_cause : (verdict : Verdict) (status : ℕ) (command : Option Command) (input old new : Option (List ℕ)) (before now sink_before sink_now : ℕ)
@@ -77,13 +64,7 @@ means_it : (verdict : Verdict) (command : Option Command) (bytes : List ℕ) (be
 means_it Usage command bytes before now caused read memory = subst (λ c. Means c bytes Usage) (sym caused) tt
 means_it Read command bytes before now caused read memory = absurd (read refl)
 means_it Memory command bytes before now caused read memory = absurd (memory refl)
-means_it Long command bytes before now caused read memory = caused.1
-means_it (Refused offset why) command bytes before now caused read memory = caused.1
-means_it (Input at) command bytes before now caused read memory = caused.1
-means_it Accepted command bytes before now caused read memory = caused.1
-means_it (Listing words) command bytes before now caused read memory = caused.1
-means_it (Ended end) command bytes before now caused read memory = caused.1
-means_it (Counted end steps) command bytes before now caused read memory = caused.1
+means_it verdict command bytes before now caused read memory = caused.1
 
 -- so the words and the bytes decide each status but 5, 6 and 7
 pub says_decided : (input : Option (List ℕ)) (words : List (List ℕ)) (command : Option Command) (verdict : Verdict) (status : ℕ) (old new : Option (List ℕ)) (before now sink_before sink_now : ℕ)
@@ -103,47 +84,60 @@ says_decided (Some bytes) words command verdict status old new before now sink_b
       subst (λ (v : Verdict). Says v status old new) same says,
     )
 
+-- ---- what a command comes to with standard input
+
+-- the first wrong piece is told, or the pieces have values, with which it ends so
+abbrev Heard : (given : List Piece) → (ends : List ℤ → Verdict → Type 0) → Verdict → Type 0
+Heard given ends verdict = ((at : ℕ) × IsWrongAt given at × (verdict ≡ Input at)) ⊎ ((numbers : List ℤ) × HaveValues given numbers × ends numbers verdict)
+
+-- the end of the elision of a program with numbers is told
+abbrev IsMeant : Program → List ℤ → Limits → Verdict → Type 0
+IsMeant program numbers limits verdict = (end : End) × SerialEnd program numbers (limits_of limits) (end_of end) × (verdict ≡ Ended end)
+
+-- what a command says of an accepted program, with these pieces behind its source
+abbrev Gives : Command → Program → (given : List Piece) → Verdict → Type 0
+Gives Check program given verdict = verdict ≡ Accepted
+Gives (Build form page) program given verdict = (words : List ℕ) × IsImageOf program form page words × (verdict ≡ Listing words)
+Gives (Serial limits stat) program given verdict =
+    (length (image_of program forms.Serial limits.page) ≤ max_image_words) × Heard given (λ numbers said. IsServed stat program numbers limits said) verdict
+Gives (Mean limits) program given verdict = Heard given (λ numbers said. IsMeant program numbers limits said) verdict
+
+-- the source is refused, and that is told
+abbrev IsTold : Command → (source : List ℕ) → Verdict → Type 0
+IsTold command source verdict = (at : ℕ) × (why : Refusal) × IsRefusedBy command source at why × (verdict ≡ Refused at why)
+
+-- standard input is too long, or its source is refused, or it is accepted and the command says this of its program
+abbrev Front : Command → (input : List ℕ) → Verdict → Type 0
+Front command input verdict =
+    ((max_input < length input) × (verdict ≡ Long))
+    ⊎ ((length input ≤ max_input) × (source : List ℕ) × IsCut input source
+    × (IsTold command source verdict ⊎ ((program : Program) × HasAccepted source program × Gives command program (pieces_behind input source) verdict)))
+
+-- two accepted programs of one text are one
+one_program : (input source other : List ℕ) (program found : Program) → IsCut input source → HasAccepted source program → IsCut input other → HasAccepted other found → program ≡ found
+one_program input source other program found cut has back holds =
+    HasProgram-one other program found (subst (λ text. HasProgram text program) (IsCut-one input source other cut back) has.named) holds.named
+
+-- each verdict of a command is one of the three
+front : (command : Command) (input : List ℕ) (verdict : Verdict) → Brings verdict command input → Front command input verdict
+front command input Long x = inl (x, refl)
+front command input (Refused at why) x = inr (x.0, x.1, x.2, inl (at, why, x.3, refl))
+front Check input Accepted x = inr (x.0, x.1, x.3, inr (x.2, x.4, refl))
+front (Build form page) input (Listing words) x = inr (x.0, x.1, x.2, inr (x.3.0, x.3.1, (words, x.3.2, refl)))
+front (Serial limits stat) input (Input at) x =
+    let one = one_program input x.2.source x.1.source x.2.program x.1.program x.2.cut x.2.accepted x.1.cut x.1.accepted in
+    let few = subst (λ (p : Program). length (image_of p forms.Serial limits.page) ≤ max_image_words) one x.2.few in
+    inr (x.0, x.1.source, x.1.cut, inr (x.1.program, x.1.accepted, (few, inl (at, x.1.wrong, refl))))
+front (Serial limits stat) input (Ended end) x = inr (x.0, x.1.source, x.1.cut, inr (x.1.program, x.1.accepted, (x.1.few, inr (x.1.numbers, x.1.values, x.1.served))))
+front (Serial limits stat) input (Counted end steps) x = inr (x.0, x.1.source, x.1.cut, inr (x.1.program, x.1.accepted, (x.1.few, inr (x.1.numbers, x.1.values, x.1.served))))
+front (Mean limits) input (Input at) x = inr (x.0, x.1.source, x.1.cut, inr (x.1.program, x.1.accepted, inl (at, x.1.wrong, refl)))
+front (Mean limits) input (Ended end) x = inr (x.0, x.1.source, x.1.cut, inr (x.1.program, x.1.accepted, inr (x.1.numbers, x.1.values, (end, x.1.serial, refl))))
+front _ input _ x = absurd (search rules)
+
 -- ---- one answer
 
--- a refused source isn't accepted
-refused_or_accepted : (input : List ℕ) (offset : ℕ) (why : Refusal) → Brings (Refused offset why) Check input → Brings Accepted Check input → ⊥
-refused_or_accepted input offset why x y =
-    let cut = IsCut-one input x.1 y.1 x.2 y.3 in
-    accepted_or_refused y.1 y.2 offset why y.4 (subst (λ text. IsRefusedBy Check text offset why) cut x.3)
-
-same_refusal : (command : Command) (input : List ℕ) (i j : ℕ) (r s : Refusal) → Brings (Refused i r) command input → Brings (Refused j s) command input → AnswersSame (Refused i r) (Refused j s)
-same_refusal command input i j r s x y =
-    let cut = IsCut-one input x.1 y.1 x.2 y.2 in
-    let one = IsRefused-one command y.1 i j r s (subst (λ text. IsRefusedBy command text i r) cut x.3) y.3 in
-    record { text = λ k. verdict_text (Refused (one.0 k) (one.1 k)); status = refl }
-
--- ---- the answers of `mean`
-
--- a refused source isn't accepted
-refused_or_ends : (input source other : List ℕ) (program : Program) (at : ℕ) (why : Refusal) → IsCut input other → IsRefused other at why
-    → IsCut input source → HasAccepted source program → ⊥
-refused_or_ends input source other program at why cut refused same accepted =
-    accepted_or_refused source program at why accepted (subst (λ text. IsRefused text at why) (IsCut-one input other source cut same) refused)
-
-same_offset : (input : List ℕ) (i j : ℕ) → HasWrongPiece input i → HasWrongPiece input j → AnswersSame (Input i) (Input j)
-same_offset input i j x y =
-    let cut = IsCut-one input x.source y.source x.cut y.cut in
-    let one = wrong_once (pieces_behind input y.source) i j (subst (λ text. IsWrongAt (pieces_behind input text) i) cut x.wrong) y.wrong in
-    record { text = ap (λ n. verdict_text (Input n)) one; status = refl }
-
-wrong_or_ends : (input : List ℕ) (i : ℕ) (limits : Limits) (end : End) → HasWrongPiece input i → HasEnd input limits end → ⊥
-wrong_or_ends input i limits end x y =
-    let cut = IsCut-one input x.source y.source x.cut y.cut in
-    wrong_or_values (pieces_behind input y.source) i y.numbers (subst (λ text. IsWrongAt (pieces_behind input text) i) cut x.wrong) y.values
-
--- the program and the numbers are those of any cut
-end_at : (input source : List ℕ) (program : Program) (numbers : List ℤ) (limits : Limits) (end : End) → IsCut input source → HasAccepted source program
-    → HaveValues (pieces_behind input source) numbers → HasEnd input limits end → SerialEnd program numbers (limits_of limits) (end_of end)
-end_at input source program numbers limits end cut accepted values x =
-    let same = IsCut-one input x.source source x.cut cut in
-    let one = HasProgram-one source x.program program (subst (λ text. HasProgram text x.program) same x.accepted.named) accepted.named in
-    let all = x.values.values_are ∙ ap (λ text. map piece_value (pieces_behind input text)) same ∙ sym values.values_are in
-    subst (λ (p : Program). SerialEnd p numbers (limits_of limits) (end_of end)) one (subst (λ (n : List ℤ). SerialEnd x.program n (limits_of limits) (end_of end)) all x.serial)
+same_answer : (a b : Verdict) → a ≡ b → AnswersSame a b
+same_answer a b same = record { text = ap verdict_text same; status = ap verdict_status same }
 
 same_trap : (k l : declared_trap.Trap) → trap_of k ≡ trap_of l → k ≡ l
 same_trap trap.Divide trap.Divide e = refl
@@ -166,53 +160,13 @@ one_text (ended.Trap out kind ticks) (ended.Trap more other n) e =
 one_text ended.Spent ended.Spent e = record { text = refl; status = refl }
 one_text _ _ e = let none : ⊥ = cc in absurd none
 
-same_end : (input : List ℕ) (limits : Limits) (a b : End) → HasEnd input limits a → HasEnd input limits b → AnswersSame (Ended a) (Ended b)
-same_end input limits a b x y =
-    let first = end_at input y.source y.program y.numbers limits a y.cut y.accepted y.values x in
-    let second = y.serial in
-    one_text a b (one_end Control Stack Destination (step y.program limits.page y.numbers) inside (first_control y.program (limits_of limits)) empty_stack limits.ticks
-    (end_of a) (end_of b) first.0 second.0 first.1 second.1)
-
--- ---- the answers of `build`
-
-listed_or_refused : (input : List ℕ) (form : Form) (page at : ℕ) (why : Refusal) (words : List ℕ) → Brings (Refused at why) (Build form page) input
-    → Brings (Listing words) (Build form page) input → ⊥
-listed_or_refused input form page at why words x y =
-    let cut = IsCut-one input x.1 y.1 x.2 y.2 in
-    let long = accepted_and_long y.1 y.3.0 form page at why y.3.1 (subst (λ text. IsNotCompiled form page text at why) cut x.3) in
-    built_or_long y.3.0 form page words y.3.2 long.2
-
-same_listing : (input : List ℕ) (form : Form) (page : ℕ) (a b : List ℕ) → Brings (Listing a) (Build form page) input → Brings (Listing b) (Build form page) input
-    → AnswersSame (Listing a) (Listing b)
-same_listing input form page a b x y =
-    let cut = IsCut-one input x.1 y.1 x.2 y.2 in
-    let first = image_at y.1 y.3.0 form page a y.3.1 (subst (λ text. BuildsAs text form page a) cut x.3) in
-    record { text = ap listing (one_image y.3.0 form page a b first y.3.2); status = refl }
-
--- ---- the answers of `serial`
-
--- a source that isn't compiled has no image that isn't too long
-refused_or_compiled : (input source other : List ℕ) (program : Program) (page at : ℕ) (why : Refusal) → IsCut input other → IsNotCompiled forms.Serial page other at why
-    → IsCut input source → HasAccepted source program → length (image_of program forms.Serial page) ≤ max_image_words → ⊥
-refused_or_compiled input source other program page at why cut refused same accepted few =
-    let long = accepted_and_long source program forms.Serial page at why accepted
-    (subst (λ text. IsNotCompiled forms.Serial page text at why) (IsCut-one input other source cut same) refused) in
-    let more = long.2 in
-    omega (arith, few, more)
-
-wrong_or_served : (input : List ℕ) (i : ℕ) (limits : Limits) (stat : Bool) (said : Verdict) → HasWrongPiece input i → HasServed input limits stat said → ⊥
-wrong_or_served input i limits stat said x y =
-    let cut = IsCut-one input x.source y.source x.cut y.cut in
-    wrong_or_values (pieces_behind input y.source) i y.numbers (subst (λ text. IsWrongAt (pieces_behind input text) i) cut x.wrong) y.values
-
--- the program and the numbers are those of any cut
-served_at : (input source : List ℕ) (program : Program) (numbers : List ℤ) (limits : Limits) (stat : Bool) (said : Verdict) → IsCut input source → HasAccepted source program
-    → HaveValues (pieces_behind input source) numbers → HasServed input limits stat said → IsServed stat program numbers limits said
-served_at input source program numbers limits stat said cut accepted values x =
-    let same = IsCut-one input x.source source x.cut cut in
-    let one = HasProgram-one source x.program program (subst (λ text. HasProgram text x.program) same x.accepted.named) accepted.named in
-    let all = x.values.values_are ∙ ap (λ text. map piece_value (pieces_behind input text)) same ∙ sym values.values_are in
-    subst (λ (p : Program). IsServed stat p numbers limits said) one (subst (λ (n : List ℤ). IsServed stat x.program n limits said) all x.served)
+one_meant : (program : Program) (numbers : List ℤ) (limits : Limits) (a b : Verdict) → IsMeant program numbers limits a → IsMeant program numbers limits b → AnswersSame a b
+one_meant program numbers limits a b x y =
+    let first = x.1 in
+    let second = y.1 in
+    let end = one_end Control Stack Destination (step program limits.page numbers) inside (first_control program (limits_of limits)) empty_stack limits.ticks
+    (end_of x.0) (end_of y.0) first.0 second.0 first.1 second.1 in
+    subst (λ (v : Verdict). AnswersSame a v) (sym y.2) (subst (λ (v : Verdict). AnswersSame v (Ended y.0)) (sym x.2) (one_text x.0 y.0 end))
 
 -- one end and one number of steps have one text and status
 one_verdict : (stat : Bool) (a b : End) (i j : ℕ) → AnswersSame (Ended a) (Ended b) → i ≡ j → AnswersSame (verdict_of stat a i) (verdict_of stat b j)
@@ -230,69 +184,72 @@ one_served stat program numbers limits a b x y =
     let same = one_verdict stat x.end y.end x.steps y.steps (one_text x.end y.end end) steps in
     subst (λ (v : Verdict). AnswersSame a v) (sym y.said_is) (subst (λ (v : Verdict). AnswersSame v (verdict_of stat y.end y.steps)) (sym x.said_is) same)
 
-same_served : (input : List ℕ) (limits : Limits) (stat : Bool) (a b : Verdict) → HasServed input limits stat a → HasServed input limits stat b → AnswersSame a b
-same_served input limits stat a b x y =
-    one_served stat y.program y.numbers limits a b (served_at input y.source y.program y.numbers limits stat a y.cut y.accepted y.values x) y.served
+-- what is said is said of the program of any cut
+gives_at : (command : Command) (input source other : List ℕ) (program found : Program) (verdict : Verdict) → IsCut input source → HasAccepted source program
+    → IsCut input other → HasAccepted other found → Gives command program (pieces_behind input source) verdict → Gives command found (pieces_behind input other) verdict
+gives_at command input source other program found verdict cut has back holds x =
+    subst (λ (p : Program). Gives command p (pieces_behind input other) verdict) (one_program input source other program found cut has back holds)
+    (subst (λ text. Gives command program (pieces_behind input text) verdict) (IsCut-one input source other cut back) x)
 
-same_verdict : (command : Command) (input : List ℕ) (a b : Verdict) → Brings a command input → Brings b command input → AnswersSame a b
-same_verdict command input Long Long x y = record { text = refl; status = refl }
-same_verdict command input Long (Refused j s) x y = absurd (omega (arith, x, y.0))
-same_verdict Check input Long Accepted x y = absurd (omega (arith, x, y.0))
-same_verdict (Build form page) input Long (Listing b) x y = absurd (omega (arith, x, y.0))
-same_verdict (Serial limits stat) input Long (Input j) x y = absurd (omega (arith, x, y.0))
-same_verdict (Serial limits stat) input Long (Ended b) x y = absurd (omega (arith, x, y.0))
-same_verdict (Serial limits stat) input Long (Counted b j) x y = absurd (omega (arith, x, y.0))
-same_verdict (Mean limits) input Long (Input j) x y = absurd (omega (arith, x, y.0))
-same_verdict (Mean limits) input Long (Ended b) x y = absurd (omega (arith, x, y.0))
-same_verdict command input (Refused i r) Long x y = absurd (omega (arith, y, x.0))
-same_verdict command input (Refused i r) (Refused j s) x y = same_refusal command input i j r s x y
-same_verdict Check input (Refused i r) Accepted x y = absurd (refused_or_accepted input i r x y)
-same_verdict (Build form page) input (Refused i r) (Listing b) x y = absurd (listed_or_refused input form page i r b x y)
-same_verdict (Serial limits stat) input (Refused i r) (Input j) x y =
-    absurd (refused_or_compiled input y.2.source x.1 y.2.program limits.page i r x.2 x.3 y.2.cut y.2.accepted y.2.few)
-same_verdict (Serial limits stat) input (Refused i r) (Ended b) x y =
-    absurd (refused_or_compiled input y.1.source x.1 y.1.program limits.page i r x.2 x.3 y.1.cut y.1.accepted y.1.few)
-same_verdict (Serial limits stat) input (Refused i r) (Counted b j) x y =
-    absurd (refused_or_compiled input y.1.source x.1 y.1.program limits.page i r x.2 x.3 y.1.cut y.1.accepted y.1.few)
-same_verdict (Mean limits) input (Refused i r) (Input j) x y = absurd (refused_or_ends input y.1.source x.1 y.1.program i r x.2 x.3 y.1.cut y.1.accepted)
-same_verdict (Mean limits) input (Refused i r) (Ended b) x y = absurd (refused_or_ends input y.1.source x.1 y.1.program i r x.2 x.3 y.1.cut y.1.accepted)
-same_verdict (Mean limits) input (Input i) Long x y = absurd (omega (arith, y, x.0))
-same_verdict (Mean limits) input (Input i) (Refused j s) x y = absurd (refused_or_ends input x.1.source y.1 x.1.program j s y.2 y.3 x.1.cut x.1.accepted)
-same_verdict (Mean limits) input (Input i) (Input j) x y = same_offset input i j x.1 y.1
-same_verdict (Mean limits) input (Input i) (Ended b) x y = absurd (wrong_or_ends input i limits b x.1 y.1)
-same_verdict Check input Accepted Long x y = absurd (omega (arith, y, x.0))
-same_verdict Check input Accepted (Refused j s) x y = absurd (refused_or_accepted input j s y x)
-same_verdict Check input Accepted Accepted x y = record { text = refl; status = refl }
-same_verdict (Build form page) input (Listing a) Long x y = absurd (omega (arith, y, x.0))
-same_verdict (Build form page) input (Listing a) (Refused j s) x y = absurd (listed_or_refused input form page j s a y x)
-same_verdict (Build form page) input (Listing a) (Listing b) x y = same_listing input form page a b x y
-same_verdict (Serial limits stat) input (Input i) Long x y = absurd (omega (arith, y, x.0))
-same_verdict (Serial limits stat) input (Input i) (Refused j s) x y =
-    absurd (refused_or_compiled input x.2.source y.1 x.2.program limits.page j s y.2 y.3 x.2.cut x.2.accepted x.2.few)
-same_verdict (Serial limits stat) input (Input i) (Input j) x y = same_offset input i j x.1 y.1
-same_verdict (Serial limits stat) input (Input i) (Ended b) x y = absurd (wrong_or_served input i limits stat (Ended b) x.1 y.1)
-same_verdict (Serial limits stat) input (Input i) (Counted b j) x y = absurd (wrong_or_served input i limits stat (Counted b j) x.1 y.1)
-same_verdict (Serial limits stat) input (Ended a) Long x y = absurd (omega (arith, y, x.0))
-same_verdict (Serial limits stat) input (Ended a) (Refused j s) x y =
-    absurd (refused_or_compiled input x.1.source y.1 x.1.program limits.page j s y.2 y.3 x.1.cut x.1.accepted x.1.few)
-same_verdict (Serial limits stat) input (Ended a) (Input j) x y = absurd (wrong_or_served input j limits stat (Ended a) y.1 x.1)
-same_verdict (Serial limits stat) input (Ended a) (Ended b) x y = same_served input limits stat (Ended a) (Ended b) x.1 y.1
-same_verdict (Serial limits stat) input (Ended a) (Counted b j) x y = same_served input limits stat (Ended a) (Counted b j) x.1 y.1
-same_verdict (Serial limits stat) input (Counted a i) Long x y = absurd (omega (arith, y, x.0))
-same_verdict (Serial limits stat) input (Counted a i) (Refused j s) x y =
-    absurd (refused_or_compiled input x.1.source y.1 x.1.program limits.page j s y.2 y.3 x.1.cut x.1.accepted x.1.few)
-same_verdict (Serial limits stat) input (Counted a i) (Input j) x y = absurd (wrong_or_served input j limits stat (Counted a i) y.1 x.1)
-same_verdict (Serial limits stat) input (Counted a i) (Ended b) x y = same_served input limits stat (Counted a i) (Ended b) x.1 y.1
-same_verdict (Serial limits stat) input (Counted a i) (Counted b j) x y = same_served input limits stat (Counted a i) (Counted b j) x.1 y.1
-same_verdict (Mean limits) input (Ended a) Long x y = absurd (omega (arith, y, x.0))
-same_verdict (Mean limits) input (Ended a) (Refused j s) x y = absurd (refused_or_ends input x.1.source y.1 x.1.program j s y.2 y.3 x.1.cut x.1.accepted)
-same_verdict (Mean limits) input (Ended a) (Input j) x y = absurd (wrong_or_ends input j limits a y.1 x.1)
-same_verdict (Mean limits) input (Ended a) (Ended b) x y = same_end input limits a b x.1 y.1
-same_verdict _ input _ _ x y = absurd (search rules)
+-- one wrong piece is told, or one end
+one_heard : (given : List Piece) (ends : List ℤ → Verdict → Type 0) → ((numbers : List ℤ) (a b : Verdict) → ends numbers a → ends numbers b → AnswersSame a b)
+    → (a b : Verdict) → Heard given ends a → Heard given ends b → AnswersSame a b
+one_heard given ends one a b (inl (i, x, e)) (inl (j, y, f)) = same_answer a b (e ∙ ap (λ n. Input n) (wrong_once given i j x y) ∙ sym f)
+one_heard given ends one a b (inl (i, x, e)) (inr (more, y, f)) = absurd (wrong_or_values given i more x y)
+one_heard given ends one a b (inr (numbers, x, e)) (inl (j, y, f)) = absurd (wrong_or_values given j numbers y x)
+one_heard given ends one a b (inr (numbers, x, e)) (inr (more, y, f)) =
+    one more a b (subst (λ (n : List ℤ). ends n a) (x.values_are ∙ sym y.values_are) e) f
+
+-- pieces with values have this end
+heard : (given : List Piece) (ends : List ℤ → Verdict → Type 0) (numbers : List ℤ) (verdict : Verdict) → Heard given ends verdict → HaveValues given numbers → ends numbers verdict
+heard given ends numbers verdict (inl (at, x, e)) values = absurd (wrong_or_values given at numbers x values)
+heard given ends numbers verdict (inr (more, x, e)) values = subst (λ (n : List ℤ). ends n verdict) (x.values_are ∙ sym values.values_are) e
+
+-- a command says one thing of a program
+one_gives : (command : Command) (program : Program) (given : List Piece) (a b : Verdict) → Gives command program given a → Gives command program given b → AnswersSame a b
+one_gives Check program given a b x y = same_answer a b (x ∙ sym y)
+one_gives (Build form page) program given a b x y =
+    same_answer a b (x.2 ∙ ap (λ (w : List ℕ). Listing w) (one_image program form page x.0 y.0 x.1 y.1) ∙ sym y.2)
+one_gives (Serial limits stat) program given a b x y =
+    one_heard given (λ numbers said. IsServed stat program numbers limits said) (λ numbers. one_served stat program numbers limits) a b x.1 y.1
+one_gives (Mean limits) program given a b x y =
+    one_heard given (λ numbers said. IsMeant program numbers limits said) (λ numbers. one_meant program numbers limits) a b x y
+
+-- of a program whose source is refused a command says nothing
+refused_or_gives : (command : Command) (source : List ℕ) (program : Program) (given : List Piece) (verdict : Verdict) (at : ℕ) (why : Refusal) → HasAccepted source program
+    → IsRefusedBy command source at why → Gives command program given verdict → ⊥
+refused_or_gives Check source program given verdict at why has refused x = accepted_or_refused source program at why has refused
+refused_or_gives (Build form page) source program given verdict at why has refused x =
+    let long = accepted_and_long source program form page at why has refused in
+    built_or_long program form page x.0 x.1 long.2
+refused_or_gives (Serial limits stat) source program given verdict at why has refused x =
+    let long = accepted_and_long source program forms.Serial limits.page at why has refused in
+    let few = x.0 in
+    let more = long.2 in
+    omega (arith, few, more)
+refused_or_gives (Mean limits) source program given verdict at why has refused x = accepted_or_refused source program at why has refused
+
+one_front : (command : Command) (input : List ℕ) (a b : Verdict) → Front command input a → Front command input b → AnswersSame a b
+one_front command input a b (inl (m, e)) (inl (n, f)) = same_answer a b (e ∙ sym f)
+one_front command input a b (inl (m, e)) (inr (short, other, back, y)) = absurd (omega (arith, m, short))
+one_front command input a b (inr (short, source, cut, x)) (inl (n, f)) = absurd (omega (arith, n, short))
+one_front command input a b (inr (short, source, cut, inl (at, why, refused, e))) (inr (more, other, back, inl (to, what, again, f))) =
+    let same = IsCut-one input source other cut back in
+    let one = IsRefused-one command other at to why what (subst (λ text. IsRefusedBy command text at why) same refused) again in
+    let both : Refused at why ≡ Refused to what = λ k. Refused (one.0 k) (one.1 k) in
+    same_answer a b (e ∙ both ∙ sym f)
+one_front command input a b (inr (short, source, cut, inl (at, why, refused, e))) (inr (more, other, back, inr (found, holds, y))) =
+    let same = IsCut-one input source other cut back in
+    absurd (refused_or_gives command other found (pieces_behind input other) b at why holds (subst (λ text. IsRefusedBy command text at why) same refused) y)
+one_front command input a b (inr (short, source, cut, inr (program, has, x))) (inr (more, other, back, inl (to, what, again, f))) =
+    let same = IsCut-one input other source back cut in
+    absurd (refused_or_gives command source program (pieces_behind input source) a to what has (subst (λ text. IsRefusedBy command text to what) same again) x)
+one_front command input a b (inr (short, source, cut, inr (program, has, x))) (inr (more, other, back, inr (found, holds, y))) =
+    one_gives command found (pieces_behind input other) a b (gives_at command input source other program found a cut has back holds x) y
 
 -- the words and standard input decide the text and the status
 pub one_answer : (command : Option Command) (input : List ℕ) (a b : Verdict) → Means command input a → Means command input b → AnswersSame a b
-one_answer (Some command) input a b x y = same_verdict command input a b x y
+one_answer (Some command) input a b x y = one_front command input a b (front command input a x) (front command input b y)
 one_answer None input Usage Usage x y = record { text = refl; status = refl }
 one_answer None input a b x y = absurd (search rules)
 
@@ -303,6 +260,42 @@ said_calm verdict status old new before now (said, which, inr breaks) calm = abs
 said_calm verdict status old new before now (said, inr memory, inl says) calm = inr (subst (λ (v : Verdict). Says v status old new) memory says)
 said_calm verdict status old new before now (said, inl same, inl says) calm = inl (subst (λ (v : Verdict). Says v status old new) same says)
 
+-- ---- an accepted source
+
+-- what is caused is what the command comes to, or want of memory, where no read failed
+told_or_memory : (command : Command) (input : List ℕ) (verdict : Verdict) (before now : ℕ) → IsCaused (Some command) (Some input) before now verdict → (Rose before now → ⊥)
+    → Brings verdict command input ⊎ (verdict ≡ Memory)
+told_or_memory command input Usage before now caused calm = absurd (some_none caused)
+  where
+    some_none : Some command ≡ None → ⊥
+    some_none h = cc
+told_or_memory command input Read before now caused calm = absurd (calm caused.1)
+told_or_memory command input Memory before now caused calm = inr refl
+told_or_memory command input verdict before now caused calm = inl caused.1
+
+module _ (command : Command) (input source : List ℕ) (program : Program)
+    (short : length input ≤ max_input) (cut : IsCut input source) (has : HasAccepted source program) where
+  accepted_front : (verdict : Verdict) → Front command input verdict → Gives command program (pieces_behind input source) verdict ⊎ IsTold command source verdict
+  accepted_front verdict (inl (long, e)) = absurd (omega (arith, long, short))
+  accepted_front verdict (inr (less, other, back, inl (at, why, refused, e))) =
+      inr (at, why, subst (λ text. IsRefusedBy command text at why) (IsCut-one input other source back cut) refused, e)
+  accepted_front verdict (inr (less, other, back, inr (found, holds, x))) = inl (gives_at command input other source found program verdict back holds cut has x)
+
+  -- of an accepted source the verdict is what the command says of its program, or a refusal, or want of memory
+  accepted_is : (verdict : Verdict) (before now : ℕ) → IsCaused (Some command) (Some input) before now verdict → (Rose before now → ⊥)
+      → (Gives command program (pieces_behind input source) verdict ⊎ IsTold command source verdict) ⊎ (verdict ≡ Memory)
+  accepted_is verdict before now caused calm = elim (told_or_memory command input verdict before now caused calm) [
+    | inl brings ↦ inl (accepted_front verdict (front command input verdict brings))
+    | inr memory ↦ inr memory
+  ]
+
+-- of an accepted source that is refused the image is too long
+told_long : (source : List ℕ) (program : Program) (form : Form) (page at : ℕ) (why : Refusal) (verdict : Verdict) → HasAccepted source program → IsNotCompiled form page source at why
+    → verdict ≡ Refused at why → IsLong program form page × (verdict ≡ Refused 0 refusal.Long)
+told_long source program form page at why verdict has refused is =
+    let long = accepted_and_long source program form page at why has refused in
+    let both : Refused at why ≡ Refused 0 refusal.Long = λ i. Refused (long.0 i) (long.1 i) in (long.2, is ∙ both)
+
 -- ---- an accepted source with numbers
 
 module _ (input source : List ℕ) (program : Program) (numbers : List ℤ) (limits : Limits)
@@ -310,21 +303,11 @@ module _ (input source : List ℕ) (program : Program) (numbers : List ℤ) (lim
   -- the verdict of `mean` is the end of the elision, or want of memory, where no read failed
   end_is : (verdict : Verdict) (before now : ℕ) → IsCaused (Some (Mean limits)) (Some input) before now verdict → (Rose before now → ⊥)
       → ((end : End) × SerialEnd program numbers (limits_of limits) (end_of end) × (verdict ≡ Ended end)) ⊎ (verdict ≡ Memory)
-  end_is Usage before now caused calm = absurd (some_none caused)
-    where
-      some_none : Some (Mean limits) ≡ None → ⊥
-      some_none h = cc
-  end_is Read before now caused calm = absurd (calm caused.1)
-  end_is Long before now caused calm = absurd (omega (arith, caused.1, short))
-  end_is (Refused offset why) before now caused calm = absurd (refused_or_ends input source caused.1.1 program offset why caused.1.2 caused.1.3 cut has)
-  end_is (Input at) before now caused calm =
-      let same = IsCut-one input caused.1.1.source source caused.1.1.cut cut in
-      absurd (wrong_or_values (pieces_behind input source) at numbers (subst (λ text. IsWrongAt (pieces_behind input text) at) same caused.1.1.wrong) values)
-  end_is Accepted before now caused calm = absurd caused.1
-  end_is (Listing words) before now caused calm = absurd caused.1
-  end_is (Counted end steps) before now caused calm = absurd caused.1
-  end_is (Ended end) before now caused calm = inl (end, end_at input source program numbers limits end cut has values caused.1.1, refl)
-  end_is Memory before now caused calm = inr refl
+  end_is verdict before now caused calm = elim (accepted_is (Mean limits) input source program short cut has verdict before now caused calm) [
+    | inl (inl x) ↦ inl (heard (pieces_behind input source) (λ given said. IsMeant program given limits said) numbers verdict x values)
+    | inl (inr x) ↦ absurd (accepted_or_refused source program x.0 x.1 has x.2)
+    | inr memory ↦ inr memory
+  ]
 
 pub says_told_end : (input : Option (List ℕ)) (command : Option Command) (limits : Limits) (verdict : Verdict) (status : ℕ) (old new : Option (List ℕ)) (before now sink_before sink_now : ℕ)
     → command ≡ Some (Mean limits) → IsCaused command input before now verdict → Tells verdict status old new sink_before sink_now
@@ -350,24 +333,11 @@ module _ (input source : List ℕ) (program : Program) (form : Form) (page : ℕ
       → ((words : List ℕ) × IsImageOf program form page words × (verdict ≡ Listing words))
       ⊎ (IsLong program form page × (verdict ≡ Refused 0 refusal.Long))
       ⊎ (verdict ≡ Memory)
-  listing_is Usage before now caused calm = absurd (some_none caused)
-    where
-      some_none : Some (Build form page) ≡ None → ⊥
-      some_none h = cc
-  listing_is Read before now caused calm = absurd (calm caused.1)
-  listing_is Long before now caused calm = absurd (omega (arith, caused.1, short))
-  listing_is (Refused offset why) before now caused calm =
-      let same = IsCut-one input caused.1.1 source caused.1.2 cut in
-      let long = accepted_and_long source program form page offset why has (subst (λ text. IsNotCompiled form page text offset why) same caused.1.3) in
-      inr (inl (long.2, λ i. Refused (long.0 i) (long.1 i)))
-  listing_is Accepted before now caused calm = absurd caused.1
-  listing_is (Input at) before now caused calm = absurd caused.1
-  listing_is (Counted end steps) before now caused calm = absurd caused.1
-  listing_is (Ended end) before now caused calm = absurd caused.1
-  listing_is (Listing words) before now caused calm =
-      let same = IsCut-one input caused.1.1 source caused.1.2 cut in
-      inl (words, image_at source program form page words has (subst (λ text. BuildsAs text form page words) same caused.1.3), refl)
-  listing_is Memory before now caused calm = inr (inr refl)
+  listing_is verdict before now caused calm = elim (accepted_is (Build form page) input source program short cut has verdict before now caused calm) [
+    | inl (inl x) ↦ inl x
+    | inl (inr x) ↦ inr (inl (told_long source program form page x.0 x.1 verdict has x.2 x.3))
+    | inr memory ↦ inr (inr memory)
+  ]
 
 pub says_told_listing : (input : Option (List ℕ)) (command : Option Command) (form : Form) (page : ℕ) (verdict : Verdict) (status : ℕ) (old new : Option (List ℕ)) (before now sink_before sink_now : ℕ)
     → command ≡ Some (Build form page) → IsCaused command input before now verdict → Tells verdict status old new sink_before sink_now
@@ -412,25 +382,11 @@ module _ (input source : List ℕ) (program : Program) (numbers : List ℤ) (lim
       → IsServed stat program numbers limits verdict
       ⊎ (IsLong program forms.Serial limits.page × (verdict ≡ Refused 0 refusal.Long))
       ⊎ (verdict ≡ Memory)
-  served_is Usage before now caused calm = absurd (some_none caused)
-    where
-      some_none : Some (Serial limits stat) ≡ None → ⊥
-      some_none h = cc
-  served_is Read before now caused calm = absurd (calm caused.1)
-  served_is Long before now caused calm = absurd (omega (arith, caused.1, short))
-  served_is (Refused offset why) before now caused calm =
-      let same = IsCut-one input caused.1.1 source caused.1.2 cut in
-      let long = accepted_and_long source program forms.Serial limits.page offset why has
-      (subst (λ text. IsNotCompiled forms.Serial limits.page text offset why) same caused.1.3) in
-      inr (inl (long.2, λ i. Refused (long.0 i) (long.1 i)))
-  served_is Accepted before now caused calm = absurd caused.1
-  served_is (Listing words) before now caused calm = absurd caused.1
-  served_is (Input at) before now caused calm =
-      let same = IsCut-one input caused.1.1.source source caused.1.1.cut cut in
-      absurd (wrong_or_values (pieces_behind input source) at numbers (subst (λ text. IsWrongAt (pieces_behind input text) at) same caused.1.1.wrong) values)
-  served_is (Ended end) before now caused calm = inl (served_at input source program numbers limits stat (Ended end) cut has values caused.1.1)
-  served_is (Counted end steps) before now caused calm = inl (served_at input source program numbers limits stat (Counted end steps) cut has values caused.1.1)
-  served_is Memory before now caused calm = inr (inr refl)
+  served_is verdict before now caused calm = elim (accepted_is (Serial limits stat) input source program short cut has verdict before now caused calm) [
+    | inl (inl x) ↦ inl (heard (pieces_behind input source) (λ given said. IsServed stat program given limits said) numbers verdict x.1 values)
+    | inl (inr x) ↦ inr (inl (told_long source program forms.Serial limits.page x.0 x.1 verdict has x.2 x.3))
+    | inr memory ↦ inr (inr memory)
+  ]
 
 pub says_told_served : (input : Option (List ℕ)) (command : Option Command) (limits : Limits) (stat : Bool) (verdict : Verdict) (status : ℕ) (old new : Option (List ℕ)) (before now sink_before sink_now : ℕ)
     → command ≡ Some (Serial limits stat) → IsCaused command input before now verdict → Tells verdict status old new sink_before sink_now

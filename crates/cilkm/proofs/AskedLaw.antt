@@ -12,7 +12,7 @@ use Rattle.cilkm.specs.declared.setting.Setting.{Setting}
 use Rattle.cilkm.specs.declared.setting.Key.TheVariants as key
 use Rattle.cilkm.specs.Setting.{AreSettings, AreAllowed}
 use Rattle.cilkm.specs.Asked.{texts, name_text, name_of, command_with, Asks, AsksOrNot, IsWithin}
-use Rattle.cilkm.proofs.SettingLaws.{one_list, number_fits, limits_within}
+use Rattle.cilkm.proofs.SettingLaw.{one_list, number_fits, limits_within}
 
 -- ---- names
 

@@ -72,9 +72,6 @@ pub record Read (all rest : List Piece) (values : List ℤ) : Type 0 where
   pub split : all ≡ done ++ rest
   pub have : HaveValues done values
 
-pub none_read : (all : List Piece) → Read all all []
-none_read all = record { done = []; split = refl; have = record { each = tt; few = omega arith; values_are = refl } }
-
 AreNumbers-push : (done : List Piece) (piece : Piece) → AreNumbers done → IsNumber piece.bytes → AreNumbers (done ++ piece ∷ [])
 AreNumbers-push [] piece each number = (number, tt)
 AreNumbers-push (first ∷ done) piece each number = (each.0, AreNumbers-push done piece each.1 number)
