@@ -1,0 +1,3 @@
+mod WordsLaw
+mod MapLaw
+mod WholeLaw
