@@ -11,6 +11,123 @@ use std::thread::join;
 
 const ROUNDS: u32 = 2_000;
 
+/// Every other place of the first page.
+const EVENS: [Span; 32] = [
+    Span { first: 0, count: 1 },
+    Span { first: 2, count: 1 },
+    Span { first: 4, count: 1 },
+    Span { first: 6, count: 1 },
+    Span { first: 8, count: 1 },
+    Span {
+        first: 10,
+        count: 1,
+    },
+    Span {
+        first: 12,
+        count: 1,
+    },
+    Span {
+        first: 14,
+        count: 1,
+    },
+    Span {
+        first: 16,
+        count: 1,
+    },
+    Span {
+        first: 18,
+        count: 1,
+    },
+    Span {
+        first: 20,
+        count: 1,
+    },
+    Span {
+        first: 22,
+        count: 1,
+    },
+    Span {
+        first: 24,
+        count: 1,
+    },
+    Span {
+        first: 26,
+        count: 1,
+    },
+    Span {
+        first: 28,
+        count: 1,
+    },
+    Span {
+        first: 30,
+        count: 1,
+    },
+    Span {
+        first: 32,
+        count: 1,
+    },
+    Span {
+        first: 34,
+        count: 1,
+    },
+    Span {
+        first: 36,
+        count: 1,
+    },
+    Span {
+        first: 38,
+        count: 1,
+    },
+    Span {
+        first: 40,
+        count: 1,
+    },
+    Span {
+        first: 42,
+        count: 1,
+    },
+    Span {
+        first: 44,
+        count: 1,
+    },
+    Span {
+        first: 46,
+        count: 1,
+    },
+    Span {
+        first: 48,
+        count: 1,
+    },
+    Span {
+        first: 50,
+        count: 1,
+    },
+    Span {
+        first: 52,
+        count: 1,
+    },
+    Span {
+        first: 54,
+        count: 1,
+    },
+    Span {
+        first: 56,
+        count: 1,
+    },
+    Span {
+        first: 58,
+        count: 1,
+    },
+    Span {
+        first: 60,
+        count: 1,
+    },
+    Span {
+        first: 62,
+        count: 1,
+    },
+];
+
 // Stores a word at every other of 64 places, from `at` on.
 fn store_words(region: &Region, grant: &mut Grant, at: u32, word: u32)
     requires here { grant.old.region ≡ region_of region.now }
@@ -85,122 +202,7 @@ fn threads_share_words(rt: HostRuntime) -> Result<(), Fail> {
             count: 64,
         },
     );
-    let spans = [
-        Span { first: 0, count: 1 },
-        Span { first: 2, count: 1 },
-        Span { first: 4, count: 1 },
-        Span { first: 6, count: 1 },
-        Span { first: 8, count: 1 },
-        Span {
-            first: 10,
-            count: 1,
-        },
-        Span {
-            first: 12,
-            count: 1,
-        },
-        Span {
-            first: 14,
-            count: 1,
-        },
-        Span {
-            first: 16,
-            count: 1,
-        },
-        Span {
-            first: 18,
-            count: 1,
-        },
-        Span {
-            first: 20,
-            count: 1,
-        },
-        Span {
-            first: 22,
-            count: 1,
-        },
-        Span {
-            first: 24,
-            count: 1,
-        },
-        Span {
-            first: 26,
-            count: 1,
-        },
-        Span {
-            first: 28,
-            count: 1,
-        },
-        Span {
-            first: 30,
-            count: 1,
-        },
-        Span {
-            first: 32,
-            count: 1,
-        },
-        Span {
-            first: 34,
-            count: 1,
-        },
-        Span {
-            first: 36,
-            count: 1,
-        },
-        Span {
-            first: 38,
-            count: 1,
-        },
-        Span {
-            first: 40,
-            count: 1,
-        },
-        Span {
-            first: 42,
-            count: 1,
-        },
-        Span {
-            first: 44,
-            count: 1,
-        },
-        Span {
-            first: 46,
-            count: 1,
-        },
-        Span {
-            first: 48,
-            count: 1,
-        },
-        Span {
-            first: 50,
-            count: 1,
-        },
-        Span {
-            first: 52,
-            count: 1,
-        },
-        Span {
-            first: 54,
-            count: 1,
-        },
-        Span {
-            first: 56,
-            count: 1,
-        },
-        Span {
-            first: 58,
-            count: 1,
-        },
-        Span {
-            first: 60,
-            count: 1,
-        },
-        Span {
-            first: 62,
-            count: 1,
-        },
-    ];
-    let evens = region.part_all(&mut first, &spans);
+    let evens = region.part_all(&mut first, &EVENS);
     let ((mut words, mut second, sum), (odds, lent, other_sum)) = join(
         &rt,
         || -> (Grant, Grant, u32)
