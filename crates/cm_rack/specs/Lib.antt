@@ -1,0 +1,4 @@
+pub mod Rule
+pub mod Play
+pub mod Views
+pub mod TicketTag
