@@ -1,4 +1,4 @@
 pub mod Rule
 pub mod Play
 pub mod Views
-pub mod TicketTag
+pub mod Seen

@@ -1,8 +1,8 @@
 //! Putting a task into a rack, and taking it.
 ghost use Rattle.std.specs.Prelude.{◌≡◌, ◌≢◌, ℕ, ◌<◌, [], ◌∷◌, Some, IfOk, MatchResult};
 ghost use Rattle.cm_rack.specs.declared.view.View.TheVariants.{Spent, Placed};
-ghost use Rattle.cm_rack.specs.Views.{IsIdle, log_of, noted};
-ghost use Rattle.cm_rack.specs.TicketTag.{tag_of};
+ghost use Rattle.cm_rack.specs.Views.{IsIdle, noted};
+ghost use Rattle.cm_rack.specs.Seen.{tag_of, rack_of, places_of, hand_rack, ticket_rack, found_by};
 
 use crate::play::{Claim, Empty, Fill, Part, TryPut};
 use crate::racked::Racked;
@@ -13,11 +13,11 @@ use atomic_table::Seat;
 impl<T: Drop + Racked> Rack<T> {
     /// Puts a task into a place, where it is empty. The ticket has the task's tag.
     pub fn put(&self, hand: &mut Hand<T>, place: u32, task: T) -> Result<Ticket<T::Tag>, Busy<T>>
-        requires hand { hand.old.seat.table_id ≡ self.now.table.shared.table_id }
-        requires place { place < self.now.table.shared.table_id.slots }
-        ensures hand { hand.new.seat.table_id ≡ hand.old.seat.table_id }
-        ensures ticket { IfOk result (λ t. (t.badge.table_id ≡ self.now.table.shared.table_id) × (tag_of t ≡ Some (T.tag task))) }
-        ensures told { MatchResult result (λ _. log_of hand.new.seat.me ≡ (place, 0) ∷ log_of hand.old.seat.me) (λ b. (b.task ≡ task) × ((n : ℕ) × (n ≢ 0) × (log_of hand.new.seat.me ≡ (place, n) ∷ log_of hand.old.seat.me))) }
+        requires hand { hand_rack hand.old ≡ rack_of self.now }
+        requires place { place < places_of self.now }
+        ensures hand { hand_rack hand.new ≡ hand_rack hand.old }
+        ensures ticket { IfOk result (λ t. (ticket_rack t ≡ rack_of self.now) × (tag_of t ≡ Some (T.tag task))) }
+        ensures told { MatchResult result (λ _. found_by hand.new ≡ (place, 0) ∷ found_by hand.old) (λ b. (b.task ≡ task) × ((n : ℕ) × (n ≢ 0) × (found_by hand.new ≡ (place, n) ∷ found_by hand.old))) }
     {
         let seat = self.fill(&mut hand.seat, place, task)?;
         Ok(Ticket {
@@ -52,7 +52,7 @@ impl<T: Drop + Racked> Rack<T> {
 
     /// Takes the task that lies under the ticket, and leaves the place empty.
     pub fn take(&self, ticket: Ticket<T::Tag>) -> T
-        requires { ticket.badge.table_id ≡ self.now.table.shared.table_id }
+        requires { ticket_rack ticket ≡ rack_of self.now }
         ensures { tag_of ticket ≡ Some (T.tag result) }
     {
         let Ticket { badge, place } = ticket;

@@ -1,5 +1,6 @@
 //! Making a rack, with its hands.
 ghost use Rattle.std.specs.Prelude.{◌≡◌, ◌+◌, ◌<◌, [], ◌∷◌, replicate, vec_len, All, IfOk};
+ghost use Rattle.cm_rack.specs.Seen.{rack_of, places_of, hand_rack};
 ghost use Rattle.cm_rack.specs.declared.view.View.TheVariants.{Idle};
 
 use crate::play::Another;
@@ -63,9 +64,9 @@ pub fn rack<T: Drop + Racked>(
     places: u32,
     hands: u32,
 ) -> Result<(Rack<T>, Vec<Hand<T>>), Memory>
-    ensures places { IfOk result (λ r. r.0.table.shared.table_id.slots ≡ places) }
+    ensures places { IfOk result (λ r. places_of r.0 ≡ places) }
     ensures hands { IfOk result (λ r. vec_len r.1 ≡ hands) }
-    ensures table { IfOk result (λ r. All (λ h. h.seat.table_id ≡ r.0.table.shared.table_id) r.1.items) }
+    ensures table { IfOk result (λ r. All (λ h. hand_rack h ≡ rack_of r.0) r.1.items) }
 {
     let (rack, mut seat) = open::<T>(alloc, places)?;
     let count = hands as usize;

@@ -1,6 +1,6 @@
 //! Tasks of two kinds: numbers, put and taken by two threads again and again, and bundles that are as long as they say.
 ghost use Rattle.std.specs.Prelude.{◌≡◌, ◌<◌, Some, IfSome, IfOk, vec_len};
-ghost use Rattle.cm_rack.specs.TicketTag.{tag_of};
+ghost use Rattle.cm_rack.specs.Seen.{rack_of, places_of, hand_rack};
 
 use super::{Busy, Hand, Rack, Racked, Ticket, rack};
 use std::collections::LinkedList;
@@ -42,9 +42,9 @@ fn swapped(
     first: Bundle,
     second: Bundle,
 ) -> Option<(Bundle, Bundle)>
-    requires hand { hand.old.seat.table_id ≡ rack.now.table.shared.table_id }
-    requires places { 1 < rack.now.table.shared.table_id.slots }
-    ensures hand { hand.new.seat.table_id ≡ hand.old.seat.table_id }
+    requires hand { hand_rack hand.old ≡ rack_of rack.now }
+    requires places { 1 < places_of rack.now }
+    ensures hand { hand_rack hand.new ≡ hand_rack hand.old }
     ensures items { IfSome result (λ r. (r.0.items.items ≡ second.items.items) × (r.1.items.items ≡ first.items.items)) }
     ensures lengths { IfSome result (λ r. vec_len r.0.items ≡ r.0.len) }
 {
@@ -61,9 +61,9 @@ fn swapped(
 
 // Puts numbers into a place and takes them, so many times, and counts how often the number came back.
 fn put_and_take(rack: &Rack<Number>, hand: &mut Hand<Number>, place: u32) -> u32
-    requires hand { hand.old.seat.table_id ≡ rack.now.table.shared.table_id }
-    requires place { place < rack.now.table.shared.table_id.slots }
-    ensures hand { hand.new.seat.table_id ≡ hand.old.seat.table_id }
+    requires hand { hand_rack hand.old ≡ rack_of rack.now }
+    requires place { place < places_of rack.now }
+    ensures hand { hand_rack hand.new ≡ hand_rack hand.old }
 {
     let mut found = 0u32;
     for value in 0..ROUNDS {
@@ -78,9 +78,9 @@ fn put_and_take(rack: &Rack<Number>, hand: &mut Hand<Number>, place: u32) -> u32
 
 // What a second put into a filled place gives back, and what a put gives once the place was emptied.
 fn busy_then_empty(rack: &Rack<Number>, hand: &mut Hand<Number>) -> Option<(u32, u32, u32)>
-    requires hand { hand.old.seat.table_id ≡ rack.now.table.shared.table_id }
-    requires places { 1 < rack.now.table.shared.table_id.slots }
-    ensures hand { hand.new.seat.table_id ≡ hand.old.seat.table_id }
+    requires hand { hand_rack hand.old ≡ rack_of rack.now }
+    requires places { 1 < places_of rack.now }
+    ensures hand { hand_rack hand.new ≡ hand_rack hand.old }
 {
     let Ok(first) = rack.put(hand, 0, Number { value: 7 }) else {
         return None;
@@ -104,10 +104,10 @@ fn two_threads_put_and_take(rt: HostRuntime) -> Result<(), Fail> {
     let (left, right) = join(
         &rt,
         || -> u32
-            requires { (one.seat.table_id ≡ rack.table.shared.table_id) × (1 < rack.table.shared.table_id.slots) }
+            requires { (hand_rack one ≡ rack_of rack) × (1 < places_of rack) }
         { put_and_take(&rack, &mut one, 0) },
         || -> u32
-            requires { (other.seat.table_id ≡ rack.table.shared.table_id) × (1 < rack.table.shared.table_id.slots) }
+            requires { (hand_rack other ≡ rack_of rack) × (1 < places_of rack) }
         { put_and_take(&rack, &mut other, 1) },
     );
     assert_eq!(rt; left, ROUNDS);
