@@ -1,0 +1,10 @@
+pub mod CountLaw
+pub mod RebuildLaw
+pub mod PartLaw
+pub mod StepLaw
+pub mod LeadLaw
+pub mod SurplusLaw
+pub mod CalledLaw
+pub mod MarkLaw
+pub mod ReadingLaw
+pub mod OnceLaw

@@ -1,0 +1,4 @@
+pub mod Rule
+pub mod Play
+pub mod Slots
+pub mod Seen
