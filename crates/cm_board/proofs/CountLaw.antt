@@ -1,5 +1,5 @@
 -- The sum of the weights, and what a claim says of its seat.
-use Rattle.std.proofs.Common.{◌≡◌, ℕ, zero, suc, ◌+◌, ◌<◌, ◌≤◌, ◌≢◌, ◌⊎◌, inl, inr, List, [], ◌∷◌, ◌++◌, length, set, sym, refl, ap, ◌∙◌, arith, Bool, true, false}
+use Rattle.std.proofs.Common.{◌≡◌, ℕ, zero, suc, ◌+◌, ◌<◌, ◌≤◌, ◌≢◌, ◌⊎◌, inl, inr, List, [], ◌∷◌, ◌++◌, length, set, sym, refl, ap, ◌∙◌, arith, None}
 use mathlib.Core.Option as opt
 use mathlib.Core.Option.{some, none, some-injective, some-ne-none}
 use lib.ListN.{get_elem?}
@@ -7,12 +7,21 @@ use Rattle.cm_board.specs.declared.view.Lead.{Lead}
 use Rattle.cm_board.specs.declared.view.View.{View}
 use Rattle.cm_board.specs.declared.view.Role.{Role}
 use Rattle.cm_board.specs.declared.view.Role.TheVariants.{Spent, Child, Filling, Deposited, Owner, Adding, Backing, Emptying, Moving, Parked, Last, Posting, Left, Fetching}
-use Rattle.cm_board.specs.Rule.{Place, free, out, filling, full, emptying, Holder, led, moving, parked, waiting, last, seat_of, claim_of, holder_seat, holder_of, lead_of, one_if, weight, total, Surplus, handled, surplus_seat, surplus_claim}
+use Rattle.cm_board.specs.Rule.{Place, out, filling, emptying, Holder, led, moving, parked, last, seat_of, claim_of, holder_seat, holder_of, lead_of, one_if, weight, total, with_entry, Surplus, handled, surplus_seat, surplus_claim}
+
+-- none is not some
+pub nothing : {X : Type 0} (x : X) {P : Type 0} → ◌≡◌ {A = opt.Option X} none (some x) → P
+nothing x e = absurd (some-ne-none x (sym e))
 
 pub there : {A : Type 0} (l : List A) (i : ℕ) (a : A) → get_elem? l i ≡ some a → i < length l
 there [] i a e = absurd (some-ne-none a (sym e))
 there (x ∷ xs) zero a e = omega arith
 there (x ∷ xs) (suc i) a e = let t = there xs i a e in omega arith
+
+pub some_at : {A : Type 0} (l : List A) (i : ℕ) → i < length l → (a : A) × (get_elem? l i ≡ some a)
+some_at [] i h = absurd (omega arith)
+some_at (x ∷ xs) zero h = (x, refl)
+some_at (x ∷ xs) (suc i) h = some_at xs i (omega arith)
 
 module _ {H A : Type 0} where
   pub total_set : (vs : List (View H A)) (me : ℕ) (v w : View H A) → get_elem? vs me ≡ some v → total (set vs me w) + weight v.role ≡ total vs + weight w.role
@@ -54,7 +63,7 @@ module _ {A : Type 0} where
   claim_seat j Deposited i p e = absurd (some-ne-none _ (sym e))
   claim_seat j (Owner l) i p e = absurd (some-ne-none _ (sym e))
   claim_seat j (Adding at a l) i p e = absurd (some-ne-none _ (sym e))
-  claim_seat j (Backing l) i p e = absurd (some-ne-none _ (sym e))
+  claim_seat j (Backing at a l) i p e = absurd (some-ne-none _ (sym e))
   claim_seat j (Moving l) i p e = absurd (some-ne-none _ (sym e))
   claim_seat j (Parked l) i p e = absurd (some-ne-none _ (sym e))
   claim_seat j (Last l) i p e = absurd (some-ne-none _ (sym e))
@@ -70,7 +79,7 @@ module _ {A : Type 0} where
   holder_seat_of j (Emptying at a l) d e = holder_in j (led j) d refl e
   holder_seat_of j (Owner l) d e = holder_in j (led j) d refl e
   holder_seat_of j (Adding at a l) d e = holder_in j (led j) d refl e
-  holder_seat_of j (Backing l) d e = holder_in j (led j) d refl e
+  holder_seat_of j (Backing at a l) d e = holder_in j (led j) d refl e
   holder_seat_of j (Moving l) d e = holder_in j (moving j) d refl e
   holder_seat_of j (Parked l) d e = holder_in j (parked j) d refl e
   holder_seat_of j (Last l) d e = holder_in j (last j) d refl e
@@ -87,7 +96,7 @@ module _ {A : Type 0} where
   lead_holder j (Emptying at a m) l e = (led j, refl)
   lead_holder j (Owner m) l e = (led j, refl)
   lead_holder j (Adding at a m) l e = (led j, refl)
-  lead_holder j (Backing m) l e = (led j, refl)
+  lead_holder j (Backing at a m) l e = (led j, refl)
   lead_holder j (Moving m) l e = (moving j, refl)
   lead_holder j (Parked m) l e = (parked j, refl)
   lead_holder j (Last m) l e = (last j, refl)
@@ -104,7 +113,7 @@ module _ {A : Type 0} where
   holder_lead j (Emptying at a m) d e = (m, refl, omega arith)
   holder_lead j (Owner m) d e = (m, refl, omega arith)
   holder_lead j (Adding at a m) d e = (m, refl, omega arith)
-  holder_lead j (Backing m) d e = (m, refl, omega arith)
+  holder_lead j (Backing at a m) d e = (with_entry m at None, refl, omega arith)
   holder_lead j (Moving m) d e = (m, refl, omega arith)
   holder_lead j (Parked m) d e = (m, refl, omega arith)
   holder_lead j (Last m) d e = (m, refl, omega arith)
@@ -121,7 +130,7 @@ module _ {A : Type 0} where
   claim_counts j Deposited q e = absurd (some-ne-none _ (sym e))
   claim_counts j (Owner l) q e = absurd (some-ne-none _ (sym e))
   claim_counts j (Adding at a l) q e = absurd (some-ne-none _ (sym e))
-  claim_counts j (Backing l) q e = absurd (some-ne-none _ (sym e))
+  claim_counts j (Backing at a l) q e = absurd (some-ne-none _ (sym e))
   claim_counts j (Moving l) q e = absurd (some-ne-none _ (sym e))
   claim_counts j (Parked l) q e = absurd (some-ne-none _ (sym e))
   claim_counts j (Last l) q e = absurd (some-ne-none _ (sym e))
@@ -140,7 +149,7 @@ module _ {A : Type 0} where
   surplus_claim_seat j Deposited i p e = absurd (some-ne-none _ (sym e))
   surplus_claim_seat j (Owner l) i p e = absurd (some-ne-none _ (sym e))
   surplus_claim_seat j (Adding at a l) i p e = absurd (some-ne-none _ (sym e))
-  surplus_claim_seat j (Backing l) i p e = absurd (some-ne-none _ (sym e))
+  surplus_claim_seat j (Backing at a l) i p e = absurd (some-ne-none _ (sym e))
   surplus_claim_seat j (Moving l) i p e = absurd (some-ne-none _ (sym e))
   surplus_claim_seat j (Parked l) i p e = absurd (some-ne-none _ (sym e))
   surplus_claim_seat j (Last l) i p e = absurd (some-ne-none _ (sym e))

@@ -1,24 +1,23 @@
 -- The owner's steps keep the rule, and tell what they should.
-use Rattle.std.proofs.Common.{add-one, ◌≡◌, ℕ, zero, suc, ◌+◌, ◌-◌, ◌%◌, ◌^◌, ◌<◌, ◌≤◌, ◌≢◌, ◌⊎◌, eqb, ◌==◌, List, [], ◌∷◌, map, length, set, get_or, replicate, sym, refl, ap, ◌∙◌, subst, arith, Bool, true, false, true≢false, ⊎_elim, Option, Some, None, inl, inr, IfSome}
+use Rattle.std.proofs.Common.{◌≡◌, ℕ, zero, suc, ◌+◌, ◌-◌, ◌%◌, ◌^◌, ◌<◌, ◌≤◌, ◌==◌, List, [], ◌∷◌, map, set, get_or, replicate, sym, refl, ap, ◌∙◌, subst, arith, true, false, true≢false, ⊎_elim, Option, Some, None, inl, inr}
 use mathlib.Core.Logic.{dite}
 use mathlib.Core.Option as opt
 use mathlib.Core.Option.{some, none, some-injective, some-ne-none}
 use native.Mathlib.Decide.{ℕ_discrete}
 use lib.ListN.{get_elem?}
-use lib.Seq.{map-set, set-get_or}
+use lib.Seq.{map-set}
 use prog.Atomic.{either}
-use Rattle.atomic_table.specs.Table.{State, Me, keeps, takes, gives, stepped, Allows}
-use Rattle.atomic_table.proofs.Lists.{exchanged, set_again}
+use Rattle.atomic_table.specs.Table.{State, keeps, takes, gives, stepped, Allows}
+use Rattle.atomic_table.proofs.Lists.{exchanged}
 use Rattle.cm_board.specs.declared.view.Scope.{Scope}
 use Rattle.cm_board.specs.declared.view.Lead.{Lead}
 use Rattle.cm_board.specs.declared.view.View.{View}
-use Rattle.cm_board.specs.declared.view.Role.{Role}
-use Rattle.cm_board.specs.declared.view.Role.TheVariants.{Spent, Child, Filling, Deposited, Owner, Adding, Backing, Emptying, Moving, Parked, Last}
+use Rattle.cm_board.specs.declared.view.Role.TheVariants.{Owner, Adding, Backing, Emptying, Moving, Parked, Last}
 use Rattle.cm_board.specs.declared.view.Content.{Content}
 use Rattle.cm_board.specs.declared.view.Content.TheVariants.{Answer, Task}
-use Rattle.cm_board.specs.Rule.{Place, free, out, filling, full, emptying, Holder, led, moving, parked, waiting, last, entry_of, seat_of, claim_of, holder_seat, holder_of, lead_of, one_if, weight, total, Lies, TaskLies, Tallies, Knows, Ruled, view, spent, lead, Surplus, bare, handled, stored, surplus_seat, surplus_claim, SurplusLies}
-use Rattle.cm_board.specs.Play.{with_entry, closed, noted, added, uncounted, tried, emptied, lifted, parked_as, taken, laid}
-use Rattle.cm_board.proofs.CountLaw.{there, total_one, claim_counts}
+use Rattle.cm_board.specs.Rule.{Place, free, out, filling, full, emptying, Holder, led, moving, parked, last, entry_of, seat_of, claim_of, holder_seat, Lies, TaskLies, Tallies, Knows, Ruled, view, lead, with_entry, Surplus, bare, surplus_seat, surplus_claim, SurplusLies}
+use Rattle.cm_board.specs.Play.{noted, added, uncounted, tried, emptied, lifted, parked_as, taken, laid}
+use Rattle.cm_board.proofs.CountLaw.{nothing, there, total_one, claim_counts}
 use Rattle.cm_board.proofs.RebuildLaw.{at_place, at_holder, at_count, noting, is_mine, entries_set}
 use Rattle.cm_board.proofs.PartLaw.{none_apart, map_at}
 use Rattle.cm_board.proofs.StepLaw.{one_less}
@@ -62,15 +61,12 @@ module _ {H A B T : Type 0} (answers : A → B → Type 0) (belongs : H → ℕ 
   abbrev Ru : St → Type 0
   Ru = Ruled answers belongs lies_in key
 
-  nothing : {X : Type 0} (x : X) {P : Type 0} → ◌≡◌ {A = opt.Option X} none (some x) → P
-  nothing x e = absurd (some-ne-none x (sym e))
-
   abbrev Fits : (s : St) → Ru s → Holder → Type 0
   Fits s r d = TaskLies (belongs key.home key.pages (map entry_of r.places)) d (get_or s.words 17 0) (get_elem? s.homes 16)
 
-  pub adds : (slots me at : ℕ) (a : A) (l : Lead A) (scope : Scope H) → l.is_open ≡ true → l.spawned + 2 < 18446744073709551616
+  pub adds : (slots me at : ℕ) (a : A) (l : Lead A) (scope : Scope H) → l.is_open ≡ true → get_elem? l.asks at ≡ some None → l.spawned + 2 < 18446744073709551616
       → Allows Ru slots me (view scope (Owner l), []) 0 (λ n. (n + 1) % 2 ^ 64) (λ r m'. added at (Some a) (Some scope) [] (Owner l) r m')
-  adds slots me at a l scope opened room s r long mine bound =
+  adds slots me at a l scope opened unused room s r long mine bound =
       let v : View H A = view scope (Owner l) in let n : ℕ = get_or s.words 0 0 in
       let l' : Lead A = lead l.is_open l.asks (l.spawned + 1) l.log in let w : View H A = view scope (Adding at a l') in
       let knows = r.seats me v mine in let here : r.holder ≡ led me = knows.leads (led me) refl in let tally = knows.tallies l refl in
@@ -83,15 +79,15 @@ module _ {H A B T : Type 0} (answers : A → B → Type 0) (belongs : H → ℕ 
             (at_count answers belongs lies_in key s r (n + 1) me v w (led me) mine (omega arith) (λ i q e. nothing (i, q) e) (λ i q e. nothing (i, q) e)
             (λ j d other. absurd (other (sym (some-injective me j (ap holder_seat (sym here) ∙ d))))) (λ j d other. absurd (other (sym (some-injective me j d)))) (λ _. refl) (λ d e. some-injective (led me) d e)
             (subst (Fits s r) here r.task) knows.in_scope
-            (λ m e. subst (Tallies (map entry_of r.places) (n + 1)) (some-injective l' m e) (tally.0, (λ o. omega (arith, most)), (λ c. absurd (true≢false (sym opened ∙ c))))) refl refl),
+            (λ m e. subst (Tallies (map entry_of r.places) (n + 1)) (some-injective l' m e) (tally.0, (λ o. omega (arith, most)), (λ c. absurd (true≢false (sym opened ∙ c))))) refl refl (tt, unused)),
         refl,
       )
 
-  pub uncounts : (slots me : ℕ) (l : Lead A) (scope : Scope H) → l.is_open ≡ true
-      → Allows Ru slots me (view scope (Backing l), []) 0 (λ n. (n + (2 ^ 64 - 1)) % 2 ^ 64) (λ r m'. uncounted (Some scope) [] (Backing l) r m')
-  uncounts slots me l scope opened s r long mine bound =
-      let v : View H A = view scope (Backing l) in let n : ℕ = get_or s.words 0 0 in let w : View H A = view scope (Owner l) in
-      let knows = r.seats me v mine in let here : r.holder ≡ led me = knows.leads (led me) refl in let tally = knows.tallies l refl in
+  pub uncounts : (slots me at : ℕ) (a : A) (l : Lead A) (scope : Scope H) → l.is_open ≡ true
+      → Allows Ru slots me (view scope (Backing at a l), []) 0 (λ n. (n + (2 ^ 64 - 1)) % 2 ^ 64) (λ r m'. uncounted (Some scope) [] (Backing at a l) r m')
+  uncounts slots me at a l scope opened s r long mine bound =
+      let v : View H A = view scope (Backing at a l) in let n : ℕ = get_or s.words 0 0 in let l' : Lead A = with_entry l at None in let w : View H A = view scope (Owner l') in
+      let knows = r.seats me v mine in let here : r.holder ≡ led me = knows.leads (led me) refl in let tally = knows.tallies l' refl in
       let counted = r.count in let mineness = total_one s.views me v mine in
       let most = tally.1 opened in
       let less : (n + (2 ^ 64 - 1)) % 2 ^ 64 ≡ n - 1 = one_less n (omega arith) bound in (
@@ -102,12 +98,12 @@ module _ {H A B T : Type 0} (answers : A → B → Type 0) (belongs : H → ℕ 
             (at_count answers belongs lies_in key s r (n - 1) me v w (led me) mine (omega arith) (λ i q e. nothing (i, q) e) (λ i q e. nothing (i, q) e)
             (λ j d other. absurd (other (sym (some-injective me j (ap holder_seat (sym here) ∙ d))))) (λ j d other. absurd (other (sym (some-injective me j d)))) (λ _. refl) (λ d e. some-injective (led me) d e)
             (subst (Fits s r) here r.task) knows.in_scope
-            (λ m e. subst (Tallies (map entry_of r.places) (n - 1)) (some-injective l m e) (tally.0, (λ o. omega (arith, most)), (λ c. absurd (true≢false (sym opened ∙ c))))) refl refl),
-        refl,
+            (λ m e. subst (Tallies (map entry_of r.places) (n - 1)) (some-injective l' m e) (tally.0, (λ o. omega (arith, most)), (λ c. absurd (true≢false (sym opened ∙ c))))) refl refl tt),
+        (knows.stands.1, refl),
       )
 
   -- a place in use that no seat has is filled
-  is_full : (p : Place A) (a : A) → entry_of p ≡ Some a → ((j : ℕ) → seat_of p ≡ some j → ⊥) → p ≡ full a
+  pub is_full : (p : Place A) (a : A) → entry_of p ≡ Some a → ((j : ℕ) → seat_of p ≡ some j → ⊥) → p ≡ full a
   is_full free a e none_has = absurd (none_apart a e)
   is_full (out j x) a e none_has = absurd (none_has j refl)
   is_full (filling j x) a e none_has = absurd (none_has j refl)
@@ -156,7 +152,7 @@ module _ {H A B T : Type 0} (answers : A → B → Type 0) (belongs : H → ℕ 
             (λ i q e. let t = some-injective (at, emptying me a) (i, q) e in (sym (ap (λ (y : ℕ × Place A). y.0) t), sym (ap (λ (y : ℕ × Place A). y.1) t)))
             (refl, refl) refl refl (inl refl) refl
             (λ m e. subst (Tallies (map entry_of (set r.places at (emptying me a))) (get_or s.words 0 0)) (some-injective l' m e)
-            (tally.0 ∙ sym (entries_set r.places at (full a) (emptying me a) at_k refl), tally.1, tally.2)) refl refl)
+            (tally.0 ∙ sym (entries_set r.places at (full a) (emptying me a) at_k refl), tally.1, tally.2)) refl refl tt)
             (λ ne. absurd (ne two)),
         ((λ _. (a, filled_.1.0, used, filled_.1.2, refl)), (λ ne. absurd (ne two)), (λ _. two)),
       ))
@@ -167,7 +163,7 @@ module _ {H A B T : Type 0} (answers : A → B → Type 0) (belongs : H → ℕ 
         exchanged n 2 1 (λ m. Ru (stepped s (at + 1) m me [] u keeps))
             (λ two. absurd (ne two))
             (λ _. noting answers belongs lies_in key s r (at + 1) me v u mine refl refl refl refl knows.in_scope
-            (λ m e. subst (Tallies (map entry_of r.places) (get_or s.words 0 0)) (some-injective (noted l (at + 1) n) m e) tally) refl refl),
+            (λ m e. subst (Tallies (map entry_of r.places) (get_or s.words 0 0)) (some-injective (noted l (at + 1) n) m e) tally) refl refl tt),
         ((λ two. absurd (ne two)), (λ _. refl), (λ c. absurd (ne (shut c)))),
       ))
 
@@ -186,7 +182,7 @@ module _ {H A B T : Type 0} (answers : A → B → Type 0) (belongs : H → ℕ 
             (λ i q e. nothing (i, q) e)
             (refl, refl) refl refl (inr (ap holder_seat leads, leads)) refl
             (λ m e. subst (Tallies (map entry_of (set r.places at free)) (get_or s.words 0 0)) (some-injective l' m e)
-            (sym (map-set entry_of r.places at free ∙ ap (λ (es : List (Option A)). set es at None) (sym tally.0)), tally.1, tally.2)) refl refl,
+            (sym (map-set entry_of r.places at free ∙ ap (λ (es : List (Option A)). set es at None) (sym tally.0)), tally.1, tally.2)) refl refl tt,
         refl,
       )
 
@@ -201,14 +197,14 @@ module _ {H A B T : Type 0} (answers : A → B → Type 0) (belongs : H → ℕ 
         lies.1,
         exchanged (get_or s.words 17 0) 0 1 (λ n. Ru (stepped s 17 n me [] w (takes 16 None)))
             (λ _. at_holder answers belongs lies_in key s r 1 me v w (moving me) none mine (ap holder_seat here) refl (λ i q e. nothing (i, q) e) (λ i q e. nothing (i, q) e)
-            (refl, refl) refl refl (λ m e. subst (Tallies (map entry_of r.places) (get_or s.words 0 0)) (some-injective l m e) tally) (there s.homes 16 _ lies.1) refl refl)
+            (refl, refl) refl refl (λ m e. subst (Tallies (map entry_of r.places) (get_or s.words 0 0)) (some-injective l m e) tally) (there s.homes 16 _ lies.1) refl refl tt)
             (λ ne. absurd (ne lies.0)),
         (lies.0, refl),
       )
 
-  pub parks : (slots me : ℕ) (t : T) (l : Lead A) (scope : Scope H) → belongs scope.home scope.pages l.asks t → 16 < slots
+  pub parks : (slots me : ℕ) (t : T) (l : Lead A) (scope : Scope H) → l.is_open ≡ true → belongs scope.home scope.pages l.asks t → 16 < slots
       → Allows Ru slots me (view scope (Moving l), (16, Some (Task t)) ∷ []) 17 (λ n. 2) (λ r m'. parked_as (Some scope) ((16, Some (Task t)) ∷ []) (Moving l) r m')
-  parks slots me t l scope fits long_ s r long mine bound =
+  parks slots me t l scope opened fits long_ s r long mine bound =
       let v : View H A = view scope (Moving l) in let w : View H A = view scope (Parked l) in
       let knows = r.seats me v mine in let here : r.holder ≡ moving me = knows.leads (moving me) refl in let tally = knows.tallies l refl in (
         w,
@@ -216,7 +212,7 @@ module _ {H A B T : Type 0} (answers : A → B → Type 0) (belongs : H → ℕ 
         tt,
         at_holder answers belongs lies_in key s r 2 me v w (parked me) (some (Some (Task t))) mine (ap holder_seat here) refl (λ i q e. nothing (i, q) e) (λ i q e. nothing (i, q) e)
             (refl, (t, refl, subst (λ (x : Scope H × List (Option A)). belongs x.0.home x.0.pages x.1 t) (λ z. (knows.in_scope scope refl z, tally.0 z)) fits))
-            refl refl (λ m e. subst (Tallies (map entry_of r.places) (get_or s.words 0 0)) (some-injective l m e) tally) (subst (λ (n : ℕ). 16 < n) (sym long) long_) refl refl,
+            refl refl (λ m e. subst (Tallies (map entry_of r.places) (get_or s.words 0 0)) (some-injective l m e) tally) (subst (λ (n : ℕ). 16 < n) (sym long) long_) refl refl (tt, opened),
         refl,
       )
 
@@ -231,7 +227,7 @@ module _ {H A B T : Type 0} (answers : A → B → Type 0) (belongs : H → ℕ 
         lies.1.1,
         exchanged (get_or s.words 17 0) 2 1 (λ n. Ru (stepped s 17 n me [] w (takes 16 (Some (Task t)))))
             (λ _. at_holder answers belongs lies_in key s r 1 me v w (moving me) none mine (ap holder_seat here) refl (λ i q e. nothing (i, q) e) (λ i q e. nothing (i, q) e)
-            (refl, refl) refl refl (λ m e. subst (Tallies (map entry_of r.places) (get_or s.words 0 0)) (some-injective l m e) tally) (there s.homes 16 _ lies.1.1) refl refl)
+            (refl, refl) refl refl (λ m e. subst (Tallies (map entry_of r.places) (get_or s.words 0 0)) (some-injective l m e) tally) (there s.homes 16 _ lies.1.1) refl refl tt)
             (λ ne. absurd (ne lies.0)),
         (lies.0, (t, refl, subst (λ (x : Scope H × List (Option A)). belongs x.0.home x.0.pages x.1 t) (λ z. (sym (knows.in_scope scope refl) z, sym tally.0 z)) lies.1.2)),
       )
@@ -245,13 +241,14 @@ module _ {H A B T : Type 0} (answers : A → B → Type 0) (belongs : H → ℕ 
         gives,
         tt,
         at_holder answers belongs lies_in key s r 0 me v w (led me) (some None) mine (ap holder_seat here) refl (λ i q e. nothing (i, q) e) (λ i q e. nothing (i, q) e)
-            (refl, refl) refl refl (λ m e. subst (Tallies (map entry_of r.places) (get_or s.words 0 0)) (some-injective l m e) tally) (subst (λ (n : ℕ). 16 < n) (sym long) long_) refl refl,
+            (refl, refl) refl refl (λ m e. subst (Tallies (map entry_of r.places) (get_or s.words 0 0)) (some-injective l m e) tally) (subst (λ (n : ℕ). 16 < n) (sym long) long_) refl refl tt,
         refl,
       )
 
   first_knows : Knows key (replicate 16 free) (led 0) 1 0 (view {H = H} {A = A} key (Owner (lead true (replicate 16 None) 0 [])))
   first_knows = record {
     in_scope = λ sc e. sym (some_same key sc e);
+    stands = tt;
     claims = λ i q e. nothing (i, q) e;
     leads = λ d e. some-injective (led 0) d e;
     tallies = λ m e. subst (Tallies (replicate 16 None) 1) (some-injective (lead true (replicate 16 None) 0 []) m e) (refl, (λ o. omega arith), (λ c. absurd (true≢false c)));

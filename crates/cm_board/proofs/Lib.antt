@@ -8,3 +8,4 @@ pub mod CalledLaw
 pub mod MarkLaw
 pub mod ReadingLaw
 pub mod OnceLaw
+pub mod MomentLaw

@@ -1,7 +1,8 @@
 -- One seat leads, and beside one that is not open none may arrive.
-use Rattle.std.proofs.Common.{◌≡◌, ℕ, ◌+◌, ◌≤◌, List, Option, sym, ap, ◌∙◌, arith}
-use mathlib.Core.Option.{some, some-injective}
-use Rattle.cm_board.specs.Rule.{holder_seat, OneLeads, NoneArrives}
+use Rattle.std.proofs.Common.{ℕ, List, Option, sym, ap, ◌∙◌, arith}
+use mathlib.Core.Option.{some-injective}
+use Rattle.cm_board.specs.Rule.{holder_seat}
+use Rattle.cm_board.specs.Law.{OneLeads, NoneArrives}
 use Rattle.cm_board.proofs.CountLaw.{total_one, lead_holder, holder_seat_of}
 
 module _ {H A B T : Type 0} (answers : A → B → Type 0) (belongs : H → ℕ → List (Option A) → T → Type 0) (lies_in : H → ℕ → T → Type 0) where

@@ -1,22 +1,18 @@
 -- The rule when a seat is cut in two, and when two are made one.
-use Rattle.std.proofs.Common.{◌≡◌, ℕ, zero, suc, ◌+◌, ◌<◌, ◌≤◌, ◌≢◌, ◌⊎◌, List, [], ◌∷◌, ◌++◌, map, length, set, get_or, sym, refl, ap, ◌∙◌, subst, arith, Bool, true, false, ⊎_elim, Option, Some, None, length-set, inl, inr}
-use mathlib.Core.Logic.{dite}
-use mathlib.Core.Option as opt
+use Rattle.std.proofs.Common.{◌≡◌, ℕ, zero, suc, ◌+◌, ◌≢◌, ◌⊎◌, List, [], ◌∷◌, ◌++◌, map, length, set, get_or, sym, refl, ap, ◌∙◌, subst, arith, ⊎_elim, Option, Some, None, length-set, inl, inr}
 use mathlib.Core.Option.{some, none, some-injective, some-ne-none}
-use native.Mathlib.Decide.{ℕ_discrete}
 use lib.ListN.{get_elem?}
 use lib.Seq.{map-set}
 use Rattle.atomic_table.specs.Table.{State, Splits, Joins}
-use Rattle.atomic_table.proofs.Lists.{at_set, set_here, set_else, at_longer, at_last}
+use Rattle.atomic_table.proofs.Lists.{at_set, set_here, set_else, at_longer, at_last, at_map}
 use Rattle.cm_board.specs.declared.view.Scope.{Scope}
 use Rattle.cm_board.specs.declared.view.Lead.{Lead}
 use Rattle.cm_board.specs.declared.view.View.{View}
-use Rattle.cm_board.specs.declared.view.Role.{Role}
-use Rattle.cm_board.specs.declared.view.Role.TheVariants.{Spent, Child, Owner, Adding, Backing}
+use Rattle.cm_board.specs.declared.view.Role.TheVariants.{Child, Owner, Adding, Backing}
 use Rattle.cm_board.specs.declared.view.Content.{Content}
-use Rattle.cm_board.specs.Rule.{Place, free, out, filling, full, emptying, Holder, led, entry_of, seat_of, claim_of, holder_seat, holder_of, lead_of, one_if, weight, total, Lies, TaskLies, Tallies, Knows, Ruled, view, spent, lead, surplus_claim}
+use Rattle.cm_board.specs.Rule.{Place, free, out, filling, full, emptying, Holder, led, entry_of, seat_of, claim_of, holder_seat, Lies, TaskLies, Tallies, Knows, Ruled, view, spent, with_entry, surplus_claim}
 use Rattle.cm_board.proofs.CountLaw.{there, total_set, total_snoc}
-use Rattle.cm_board.proofs.RebuildLaw.{knows_stay, seats_set, place_set, is_mine, Rule, handles_set, surplus_held_set}
+use Rattle.cm_board.proofs.RebuildLaw.{knows_stay, seats_set, place_set, is_mine, handles_set, surplus_held_set}
 
 snoc_at : {V : Type 0} (l : List V) (a b : V) (j : ℕ) → get_elem? (l ++ a ∷ []) j ≡ some b → (get_elem? l j ≡ some b) ⊎ ((j ≡ length l) × (a ≡ b))
 snoc_at [] a b zero e = inr (refl, some-injective a b e)
@@ -43,10 +39,6 @@ entry_none (filling j a) e = absurd (none_apart a (sym e))
 entry_none (full a) e = absurd (none_apart a (sym e))
 entry_none (emptying j a) e = absurd (none_apart a (sym e))
 
--- an owner after the place k has this entry
-abbrev pub with_entry : {A : Type 0} → Lead A → ℕ → Option A → Lead A
-with_entry l k e = lead l.is_open (set l.asks k e) l.spawned l.log
-
 module _ {H A B T : Type 0} (answers : A → B → Type 0) (belongs : H → ℕ → List (Option A) → T → Type 0) (lies_in : H → ℕ → T → Type 0) (key : Scope H) where
   abbrev St : Type 0
   St = State (Option (Content B T)) (View H A)
@@ -54,13 +46,13 @@ module _ {H A B T : Type 0} (answers : A → B → Type 0) (belongs : H → ℕ 
   abbrev Ru : St → Type 0
   Ru = Ruled answers belongs lies_in key
 
-  pub parts : (me k : ℕ) (a : A) (l : Lead A) (scope : Scope H) → l.is_open ≡ true → get_elem? l.asks k ≡ some None
+  pub parts : (me k : ℕ) (a : A) (l : Lead A) (scope : Scope H)
       → Splits Ru me (view scope (Adding k a l)) (view scope (Owner (with_entry l k (Some a)))) (view scope (Child k a))
-  parts me k a l scope opened unused s r mine =
+  parts me k a l scope s r mine =
       let v : View H A = view scope (Adding k a l) in let l' : Lead A = with_entry l k (Some a) in let w : View H A = view scope (Owner l') in let u : View H A = view scope (Child k a) in
       let knows = r.seats me v mine in let here_holder : r.holder ≡ led me = knows.leads (led me) refl in let tally = knows.tallies l refl in
       let new : ℕ = length s.views in let p' : Place A = out new a in let places' : List (Place A) = set r.places k p' in
-      let at_k : get_elem? r.places k ≡ some free = let t = map_at entry_of r.places k None (ap (λ (es : List (Option A)). get_elem? es k) (sym tally.0) ∙ unused) in t.1 ∙ ap some (entry_none t.0 t.2) in
+      let at_k : get_elem? r.places k ≡ some free = let t = map_at entry_of r.places k None (ap (λ (es : List (Option A)). get_elem? es k) (sym tally.0) ∙ knows.stands.1) in t.1 ∙ ap some (entry_none t.0 t.2) in
       let sixteen = r.sixteen in
       let entries : map entry_of places' ≡ set l.asks k (Some a) = map-set entry_of r.places k p' ∙ ap (λ (es : List (Option A)). set es k (Some a)) (sym tally.0) in
       let views' : List (View H A) = set s.views me w ++ u ∷ [] in
@@ -96,6 +88,7 @@ module _ {H A B T : Type 0} (answers : A → B → Type 0) (belongs : H → ℕ 
             (λ t. seats_set (Knows key places' r.holder (get_or s.words 0 0)) s.views me w
             record {
               in_scope = knows.in_scope;
+              stands = tt;
               claims = λ i q f. absurd (some-ne-none _ (sym f));
               leads = λ d f. here_holder ∙ some-injective _ _ f;
               tallies = λ m f. subst (Tallies (map entry_of places') (get_or s.words 0 0)) (some-injective l' m f) (sym entries, tally.1, tally.2);
@@ -106,6 +99,7 @@ module _ {H A B T : Type 0} (answers : A → B → Type 0) (belongs : H → ℕ 
             j x t)
             (λ t. subst (λ (y : ℕ × View H A). Knows key places' r.holder (get_or s.words 0 0) y.0 y.1) (λ z. (sym (t.0 ∙ long) z, t.1 z)) record {
               in_scope = knows.in_scope;
+              stands = tt;
               claims = λ i q f. subst (λ (y : ℕ × Place A). get_elem? places' y.0 ≡ some y.1) (some-injective (k, p') (i, q) f) (set_here r.places k p' (there r.places k free at_k));
               leads = λ d f. absurd (some-ne-none _ (sym f));
               tallies = λ m f. absurd (some-ne-none _ (sym f));
@@ -120,10 +114,10 @@ module _ {H A B T : Type 0} (answers : A → B → Type 0) (belongs : H → ℕ 
             (snoc_at (set s.views me w) u x j e);
       }
 
-  pub joins : (me other k : ℕ) (a : A) (l : Lead A) (scope scope' : Scope H) → l.is_open ≡ true
-      → Joins Ru me (view scope (Owner l)) other (view scope' (Child k a)) (view scope (Backing (with_entry l k None))) spent
-  joins me other k a l scope scope' opened s r mine apart theirs' =
-      let v : View H A = view scope (Owner l) in let l' : Lead A = with_entry l k None in let w : View H A = view scope (Backing l') in let c : View H A = view scope' (Child k a) in
+  pub joins : (me other k : ℕ) (a : A) (l : Lead A) (scope scope' : Scope H)
+      → Joins Ru me (view scope (Owner l)) other (view scope' (Child k a)) (view scope (Backing k a l)) spent
+  joins me other k a l scope scope' s r mine apart theirs' =
+      let v : View H A = view scope (Owner l) in let l' : Lead A = with_entry l k None in let w : View H A = view scope (Backing k a l) in let c : View H A = view scope' (Child k a) in
       let theirs : get_elem? s.views other ≡ some c = sym (set_else s.views me other w apart) ∙ theirs' in
       let knows = r.seats me v mine in let here_holder : r.holder ≡ led me = knows.leads (led me) refl in let tally = knows.tallies l refl in
       let at_k : get_elem? r.places k ≡ some (out other a) = (r.seats other c theirs).claims k (out other a) refl in
@@ -162,6 +156,7 @@ module _ {H A B T : Type 0} (answers : A → B → Type 0) (belongs : H → ℕ 
         seats = seats_set (Knows key places' r.holder (get_or s.words 0 0)) mid other spent
             record {
               in_scope = λ sc f. absurd (none_apart sc f);
+              stands = tt;
               claims = λ i q f. absurd (some-ne-none _ (sym f));
               leads = λ d f. absurd (some-ne-none _ (sym f));
               tallies = λ m f. absurd (some-ne-none _ (sym f));
@@ -169,6 +164,7 @@ module _ {H A B T : Type 0} (answers : A → B → Type 0) (belongs : H → ℕ 
             (λ j x not at. seats_set (λ j x. j ≢ other → Knows key places' r.holder (get_or s.words 0 0) j x) s.views me w
             (λ _. record {
               in_scope = knows.in_scope;
+              stands = (tt, ap (λ (es : List (Option A)). get_elem? es k) tally.0 ∙ at_map entry_of r.places k (out other a) at_k);
               claims = λ i q f. absurd (some-ne-none _ (sym f));
               leads = λ d f. here_holder ∙ some-injective _ _ f;
               tallies = λ m f. subst (Tallies (map entry_of places') (get_or s.words 0 0)) (some-injective l' m f) (sym entries, tally.1, tally.2);

@@ -1,5 +1,5 @@
 -- The rule after a step, from what the step changes.
-use Rattle.std.proofs.Common.{◌≡◌, ℕ, zero, suc, ◌+◌, ◌<◌, ◌≤◌, ◌≢◌, ◌⊎◌, List, [], ◌∷◌, ◌++◌, map, length, set, get_or, sym, refl, ap, ◌∙◌, subst, arith, Bool, true, false, ⊎_elim, le_trans, Option, Some, None, length-set, get_or-set_other, get_or-set_same, inl, inr}
+use Rattle.std.proofs.Common.{◌≡◌, ℕ, ◌+◌, ◌<◌, ◌≤◌, ◌≢◌, ◌⊎◌, List, map, length, set, get_or, sym, refl, ap, ◌∙◌, subst, arith, ⊎_elim, le_trans, Option, Some, None, length-set, get_or-set_other, get_or-set_same}
 use mathlib.Core.Logic.{dite}
 use mathlib.Core.Option as opt
 use mathlib.Core.Option.{some, none, some-injective, some-ne-none}
@@ -11,10 +11,9 @@ use Rattle.atomic_table.proofs.Lists.{at_set, set_here, set_else, set_again, at_
 use Rattle.cm_board.specs.declared.view.Scope.{Scope}
 use Rattle.cm_board.specs.declared.view.Lead.{Lead}
 use Rattle.cm_board.specs.declared.view.View.{View}
-use Rattle.cm_board.specs.declared.view.Role.{Role}
 use Rattle.cm_board.specs.declared.view.Content.{Content}
-use Rattle.cm_board.specs.declared.view.Content.TheVariants.{Answer, Task}
-use Rattle.cm_board.specs.Rule.{Place, free, out, filling, full, emptying, Holder, led, moving, parked, waiting, last, entry_of, seat_of, claim_of, holder_seat, holder_of, lead_of, one_if, weight, total, Lies, TaskLies, Tallies, Knows, Ruled, Surplus, bare, handled, stored, surplus_seat, surplus_claim, SurplusLies, SurplusHeld, Handles}
+use Rattle.cm_board.specs.declared.view.Content.TheVariants.{Answer}
+use Rattle.cm_board.specs.Rule.{Place, free, out, filling, full, emptying, Holder, led, entry_of, seat_of, claim_of, holder_seat, holder_of, lead_of, weight, Lies, TaskLies, Tallies, Stands, Knows, Ruled, Surplus, surplus_seat, surplus_claim, SurplusLies, SurplusHeld, Handles}
 use Rattle.cm_board.proofs.CountLaw.{there, total_set, claim_seat, holder_seat_of, lead_holder, surplus_claim_seat}
 
 module _ {H A : Type 0} where
@@ -25,6 +24,7 @@ module _ {H A : Type 0} where
       → Knows key places' holder' n' j v
   knows_stay key places places' holder holder' n n' j v k keep lead = record {
     in_scope = k.in_scope;
+    stands = k.stands;
     claims = λ at p e. keep at p (claim_seat j v.role at p e) (k.claims at p e);
     leads = λ d e. let is = k.leads d e in let t = lead (ap holder_seat is ∙ holder_seat_of j v.role d e) in t.0 ∙ is;
     tallies = λ l e. let d = lead_holder j v.role l e in let is = k.leads d.0 d.1 in let t = lead (ap holder_seat is ∙ holder_seat_of j v.role d.0 d.1) in let old = k.tallies l e in
@@ -96,9 +96,9 @@ module _ {H A B T : Type 0} (answers : A → B → Type 0) (belongs : H → ℕ 
       → ((entry_of p' ≡ entry_of p) ⊎ ((holder_seat r.holder ≡ some me) × (r.holder ≡ led me)))
       → w.scope ≡ v.scope
       → ((l : Lead A) → lead_of w.role ≡ some l → Tallies (map entry_of (set r.places k p')) (get_or s.words 0 0) l)
-      → surplus_claim me v.role ≡ none → surplus_claim me w.role ≡ none
+      → surplus_claim me v.role ≡ none → surplus_claim me w.role ≡ none → Stands w.scope w.role
       → Rule record { words = set s.words (k + 1) n; homes = set s.homes k h; views = set s.views me w }
-  at_place s r k n me v w p p' h mine here own own' claimed claims lies weighs holders entries scope tallies idle idle' =
+  at_place s r k n me v w p p' h mine here own own' claimed claims lies weighs holders entries scope tallies idle idle' stands =
       let wide = r.wide in let sixteen = r.sixteen in let below = there r.places k p here in
       let there' : get_or (set s.words (k + 1) n) 0 0 ≡ get_or s.words 0 0 = get_or-set_other s.words (k + 1) 0 n 0 (λ e. omega arith) in
       let knows = r.seats me v mine in
@@ -144,6 +144,7 @@ module _ {H A B T : Type 0} (answers : A → B → Type 0) (belongs : H → ℕ 
         seats = seats_set (Knows key places' r.holder (get_or (set s.words (k + 1) n) 0 0)) s.views me w
             record {
               in_scope = λ sc e. knows.in_scope sc (sym scope ∙ e);
+              stands = stands;
               claims = λ i q e. let t = claims i q e in subst (λ (x : ℕ × Place A). get_elem? places' x.0 ≡ some x.1) (λ z. (sym t.0 z, sym t.1 z)) (set_here r.places k p' below);
               leads = λ d e. knows.leads d (sym holders ∙ e);
               tallies = λ l e. subst (λ (x : ℕ). Tallies (map entry_of places') x l) (sym there') (tallies l e);
@@ -167,9 +168,9 @@ module _ {H A B T : Type 0} (answers : A → B → Type 0) (belongs : H → ℕ 
       → weight w.role ≡ weight v.role
       → w.scope ≡ v.scope
       → ((l : Lead A) → lead_of w.role ≡ some l → Tallies (map entry_of r.places) (get_or s.words 0 0) l)
-      → 16 < length s.homes → surplus_claim me v.role ≡ none → surplus_claim me w.role ≡ none
+      → 16 < length s.homes → surplus_claim me v.role ≡ none → surplus_claim me w.role ≡ none → Stands w.scope w.role
       → Rule record { words = set s.words 17 n; homes = set s.homes 16 h; views = set s.views me w }
-  at_holder s r n me v w holder' h mine leads holders' claimed claims lies weighs scope tallies long idle idle' =
+  at_holder s r n me v w holder' h mine leads holders' claimed claims lies weighs scope tallies long idle idle' stands =
       let wide = r.wide in let sixteen = r.sixteen in
       let there' : get_or (set s.words 17 n) 0 0 ≡ get_or s.words 0 0 = get_or-set_other s.words 17 0 n 0 (λ e. omega arith) in
       let knows = r.seats me v mine in record {
@@ -191,6 +192,7 @@ module _ {H A B T : Type 0} (answers : A → B → Type 0) (belongs : H → ℕ 
         seats = seats_set (Knows key r.places holder' (get_or (set s.words 17 n) 0 0)) s.views me w
             record {
               in_scope = λ sc e. knows.in_scope sc (sym scope ∙ e);
+              stands = stands;
               claims = λ i q e. absurd (claims i q e);
               leads = λ d e. some-injective _ _ (sym holders' ∙ e);
               tallies = λ l e. subst (λ (x : ℕ). Tallies (map entry_of r.places) x l) (sym there') (tallies l e);
@@ -216,9 +218,9 @@ module _ {H A B T : Type 0} (answers : A → B → Type 0) (belongs : H → ℕ 
       → TaskLies (belongs key.home key.pages (map entry_of r.places)) holder' (get_or s.words 17 0) (get_elem? s.homes 16)
       → ((scope : Scope H) → w.scope ≡ Some scope → scope ≡ key)
       → ((l : Lead A) → lead_of w.role ≡ some l → Tallies (map entry_of r.places) n l)
-      → surplus_claim me v.role ≡ none → surplus_claim me w.role ≡ none
+      → surplus_claim me v.role ≡ none → surplus_claim me w.role ≡ none → Stands w.scope w.role
       → Rule record { words = set s.words 0 n; homes = s.homes; views = set s.views me w }
-  at_count s r n me v w holder' mine counts claimed claims others tied leads' leads lies scope tallies idle idle' =
+  at_count s r n me v w holder' mine counts claimed claims others tied leads' leads lies scope tallies idle idle' stands =
       let wide = r.wide in let sixteen = r.sixteen in
       let now : get_or (set s.words 0 n) 0 0 ≡ n = get_or-set_same s.words 0 n 0 (omega arith) in record {
         places = r.places;
@@ -243,6 +245,7 @@ module _ {H A B T : Type 0} (answers : A → B → Type 0) (belongs : H → ℕ 
         seats = seats_set (Knows key r.places holder' (get_or (set s.words 0 n) 0 0)) s.views me w
             record {
               in_scope = scope;
+              stands = stands;
               claims = λ i q e. absurd (claims i q e);
               leads = leads;
               tallies = λ l e. subst (λ (x : ℕ). Tallies (map entry_of r.places) x l) (sym now) (tallies l e);
@@ -263,15 +266,15 @@ module _ {H A B T : Type 0} (answers : A → B → Type 0) (belongs : H → ℕ 
       → claim_of me v.role ≡ none → claim_of me w.role ≡ none
       → ((scope : Scope H) → w.scope ≡ Some scope → scope ≡ key)
       → ((l : Lead A) → lead_of w.role ≡ some l → Tallies (map entry_of r.places) (get_or s.words 0 0) l)
-      → surplus_claim me v.role ≡ none → surplus_claim me w.role ≡ none
+      → surplus_claim me v.role ≡ none → surplus_claim me w.role ≡ none → Stands w.scope w.role
       → Rule record { words = set s.words i (get_or s.words i 0); homes = s.homes; views = set s.views me w }
-  noting s r i me v w mine weighs holders claim claim' scope tallies idle idle' =
+  noting s r i me v w mine weighs holders claim claim' scope tallies idle idle' stands =
       subst (λ (x : List ℕ). Rule record { words = x; homes = s.homes; views = set s.views me w }) (set-get_or s.words 0 0 ∙ sym (set-get_or s.words i 0))
       (at_count s r (get_or s.words 0 0) me v w r.holder mine (omega (arith, weighs)) (λ i q e. some-ne-none (i, q) (sym e ∙ claim)) (λ i q e. some-ne-none (i, q) (sym e ∙ claim'))
       (λ j d other. (refl, omega arith)) (λ j d other. refl)
       (λ d. let u = r.lent me d in holders ∙ subst (λ (x : View H A). holder_of me x.role ≡ some r.holder) (some-injective u.0 v (sym u.1 ∙ mine)) u.2)
       (λ d e. (r.seats me v mine).leads d (sym holders ∙ e))
-      r.task scope tallies idle idle')
+      r.task scope tallies idle idle' stands)
 
   -- a step at the surplus slot k
   pub at_surplus : (s : St) (r : Rule s) (k n me : ℕ) (v w : View H A) (q q' : Surplus) (h : opt.Option (Option (Content B T)))
@@ -285,9 +288,9 @@ module _ {H A B T : Type 0} (answers : A → B → Type 0) (belongs : H → ℕ 
       → ((l : Lead A) → lead_of w.role ≡ some l → Tallies (map entry_of r.places) (get_or s.words 0 0) l)
       → claim_of me v.role ≡ none → claim_of me w.role ≡ none
       → ((scope : Scope H) → w.scope ≡ Some scope → scope ≡ key)
-      → k + 17 < length s.homes
+      → k + 17 < length s.homes → Stands w.scope w.role
       → Rule record { words = set s.words (k + 18) n; homes = set s.homes (k + 17) h; views = set s.views me w }
-  at_surplus s r k n me v w q q' h mine here own own' claimed claims lies weighs holders tallies idle idle' scope long =
+  at_surplus s r k n me v w q q' h mine here own own' claimed claims lies weighs holders tallies idle idle' scope long stands =
       let wide = r.wide in let sixteen = r.sixteen in let many = r.surplus_count in let below = there r.surpluses k q here in
       let there' : get_or (set s.words (k + 18) n) 0 0 ≡ get_or s.words 0 0 = get_or-set_other s.words (k + 18) 0 n 0 (λ e. omega arith) in
       let knows = r.seats me v mine in
@@ -315,6 +318,7 @@ module _ {H A B T : Type 0} (answers : A → B → Type 0) (belongs : H → ℕ 
         seats = seats_set (Knows key r.places r.holder (get_or (set s.words (k + 18) n) 0 0)) s.views me w
             record {
               in_scope = scope;
+              stands = stands;
               claims = λ i p e. absurd (some-ne-none (i, p) (sym e ∙ idle'));
               leads = λ d e. knows.leads d (sym holders ∙ e);
               tallies = λ l e. subst (λ (x : ℕ). Tallies (map entry_of r.places) x l) (sym there') (tallies l e);

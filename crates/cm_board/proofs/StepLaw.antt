@@ -1,25 +1,22 @@
 -- Each step keeps the rule, and tells what it should.
-use Rattle.std.proofs.Common.{◌≡◌, ℕ, zero, suc, ◌+◌, ◌-◌, ◌%◌, ◌^◌, ◌<◌, ◌≤◌, ◌≢◌, ◌⊎◌, eqb, ◌==◌, List, [], ◌∷◌, ◌++◌, map, length, set, get_or, sym, refl, ap, ◌∙◌, subst, arith, Bool, true, false, true≢false, ⊎_elim, Option, Some, None, inl, inr, MatchBool, eq-eqb, ne_eqb}
+use Rattle.std.proofs.Common.{◌≡◌, ℕ, ◌+◌, ◌-◌, ◌%◌, ◌^◌, ◌<◌, ◌≤◌, ◌≢◌, eqb, ◌==◌, List, [], ◌∷◌, map, set, get_or, sym, refl, ap, ◌∙◌, subst, arith, true, false, true≢false, Option, Some, None, inl, MatchBool, eq-eqb, ne_eqb}
 use mathlib.Core.Logic.{dite}
-use mathlib.Core.Option as opt
 use mathlib.Core.Option.{some, none, some-injective, some-ne-none}
 use native.Mathlib.Decide.{ℕ_discrete}
 use lib.ListN.{get_elem?}
-use lib.Seq.{map-set, set-get_or}
 use prog.Atomic.{either}
 use Rattle.atomic_table.specs.Table.{State, Me, keeps, takes, gives, stepped, Allows}
-use Rattle.atomic_table.proofs.Lists.{set_here, set_else, exchanged}
+use Rattle.atomic_table.proofs.Lists.{exchanged}
 use Rattle.cm_board.specs.declared.view.Scope.{Scope}
 use Rattle.cm_board.specs.declared.view.Lead.{Lead}
 use Rattle.cm_board.specs.declared.view.View.{View}
-use Rattle.cm_board.specs.declared.view.Role.{Role}
-use Rattle.cm_board.specs.declared.view.Role.TheVariants.{Spent, Child, Filling, Deposited, Owner, Adding, Backing, Emptying, Moving, Parked, Last, Left}
+use Rattle.cm_board.specs.declared.view.Role.TheVariants.{Child, Filling, Deposited, Parked, Last, Left}
 use Rattle.cm_board.specs.declared.view.Content.{Content}
-use Rattle.cm_board.specs.declared.view.Content.TheVariants.{Answer, Task}
-use Rattle.cm_board.specs.Rule.{Place, free, out, filling, full, emptying, Holder, led, moving, parked, waiting, last, entry_of, seat_of, claim_of, holder_seat, holder_of, lead_of, one_if, weight, total, Lies, TaskLies, Tallies, Knows, Ruled, view, spent, lead}
-use Rattle.cm_board.specs.Play.{with_entry, closed, begun, filled, arrived, added, uncounted, tried, emptied, lifted, parked_as, taken, laid}
-use Rattle.cm_board.proofs.CountLaw.{there, total_one, total_two, holder_lead}
-use Rattle.cm_board.proofs.RebuildLaw.{at_place, at_holder, at_count, is_mine, Rule, entries_set}
+use Rattle.cm_board.specs.declared.view.Content.TheVariants.{Answer}
+use Rattle.cm_board.specs.Rule.{Place, out, filling, full, Holder, led, moving, parked, waiting, last, entry_of, holder_seat, holder_of, one_if, weight, TaskLies, Tallies, Ruled, view, lead}
+use Rattle.cm_board.specs.Play.{closed, begun, filled, arrived}
+use Rattle.cm_board.proofs.CountLaw.{nothing, total_one, total_two, holder_lead}
+use Rattle.cm_board.proofs.RebuildLaw.{at_place, at_count, is_mine}
 
 match_true : (P Q : Type 0) (n k : ℕ) → n ≡ k → P → MatchBool (eqb n k) P Q
 match_true P Q n k e p = subst (λ b. MatchBool b P Q) (sym (eq-eqb n k e)) p
@@ -41,9 +38,6 @@ module _ {H A B T : Type 0} (answers : A → B → Type 0) (belongs : H → ℕ 
   abbrev M : Type 0
   M = Me (Option (Content B T)) (View H A)
 
-  nothing : {X : Type 0} (x : X) {P : Type 0} → ◌≡◌ {A = opt.Option X} none (some x) → P
-  nothing x e = absurd (some-ne-none x (sym e))
-
   pub begins : (slots me at : ℕ) (a : A) (scope : Scope H)
       → Allows Ru slots me (view scope (Child at a), []) (at + 1) (λ n. either (n == 0) 1 n) (λ r m'. begun (Some scope) [] (Child at a) r m')
   begins slots me at a scope s r long mine bound =
@@ -58,7 +52,7 @@ module _ {H A B T : Type 0} (answers : A → B → Type 0) (belongs : H → ℕ 
             (λ j e. sym (some-injective me j e)) (λ j e. (sym (some-injective me j e), refl))
             (λ i q e. sym (ap (λ (y : ℕ × Place A). y.0) (some-injective (at, out me a) (i, q) e)))
             (λ i q e. let t = some-injective (at, filling me a) (i, q) e in (sym (ap (λ (y : ℕ × Place A). y.0) t), sym (ap (λ (y : ℕ × Place A). y.1) t)))
-            (refl, refl) refl refl (inl refl) refl (λ l e. nothing l e) refl refl)
+            (refl, refl) refl refl (inl refl) refl (λ l e. nothing l e) refl refl tt)
             (λ ne. absurd (ne lies.0)),
         (lies.0, refl),
       )
@@ -75,7 +69,7 @@ module _ {H A B T : Type 0} (answers : A → B → Type 0) (belongs : H → ℕ 
             (λ j e. sym (some-injective me j e)) (λ j e. nothing j e)
             (λ i q e. sym (ap (λ (y : ℕ × Place A). y.0) (some-injective (at, filling me a) (i, q) e)))
             (λ i q e. nothing (i, q) e)
-            (refl, (b, refl, fits)) refl refl (inl refl) refl (λ l e. nothing l e) refl refl,
+            (refl, (b, refl, fits)) refl refl (inl refl) refl (λ l e. nothing l e) refl refl tt,
         refl,
       )
 
@@ -118,8 +112,8 @@ module _ {H A B T : Type 0} (answers : A → B → Type 0) (belongs : H → ℕ 
             (λ j d other. nothing j (ap holder_seat (sym waits') ∙ d)) (λ j d other. absurd (other (sym (some-injective me j d)))) (λ _. refl) (λ d e. some-injective (last me) d e)
             (subst (λ (d : Holder). TaskLies (belongs key.home key.pages (map entry_of r.places)) d (get_or s.words 17 0) (get_elem? s.homes 16)) waits' r.task)
             knows.in_scope
-            (λ m e. subst (Tallies (map entry_of r.places) (n - 1)) (some-injective (closed l) m e) (refl, (λ o. absurd (true≢false (sym o))), (λ _. omega arith))) refl refl),
-        (some_, match_true _ _ n 1 one (l, refl)),
+            (λ m e. subst (Tallies (map entry_of r.places) (n - 1)) (some-injective (closed l) m e) (refl, (λ o. absurd (true≢false (sym o))), (λ _. omega arith))) refl refl (tt, refl)),
+        (some_, match_true _ _ n 1 one (map entry_of r.places, refl)),
       ))
       (λ more. let w : View H A = view scope (Left ((0, n) ∷ [])) in (
         w,
@@ -129,15 +123,15 @@ module _ {H A B T : Type 0} (answers : A → B → Type 0) (belongs : H → ℕ 
             (at_count answers belongs lies_in key s r (n - 1) me v w r.holder mine (omega arith) (λ i q e. nothing (i, q) e) (λ i q e. nothing (i, q) e)
             (λ j d other. (refl, omega arith)) (λ j d other. refl)
             (λ d. let u = r.lent me d in nothing r.holder (subst (λ (x : View H A). holder_of me x.role ≡ some r.holder) (some-injective u.0 v (sym u.1 ∙ mine)) u.2))
-            (λ d e. nothing d e) r.task knows.in_scope (λ m e. nothing m e) refl refl),
+            (λ d e. nothing d e) r.task knows.in_scope (λ m e. nothing m e) refl refl tt),
         (some_, match_false _ _ n 1 more refl),
       ))
 
-  pub arrives_parked : (slots me : ℕ) (l : Lead A) (scope : Scope H) → l.is_open ≡ true
+  pub arrives_parked : (slots me : ℕ) (l : Lead A) (scope : Scope H)
       → Allows Ru slots me (view scope (Parked l), []) 0 (λ n. (n + (2 ^ 64 - 1)) % 2 ^ 64) (λ r m'. arrived (Some scope) [] (Parked l) r m')
-  arrives_parked slots me l scope opened s r long mine bound =
+  arrives_parked slots me l scope s r long mine bound =
       let v : View H A = view scope (Parked l) in let n : ℕ = get_or s.words 0 0 in
-      let counted = r.count in let mineness = total_one s.views me v mine in let weighs : one_if l.is_open ≡ 1 = ap one_if opened in
+      let counted = r.count in let mineness = total_one s.views me v mine in let weighs : one_if l.is_open ≡ 1 = ap one_if (r.seats me v mine).stands.1 in
       let some_ : 1 ≤ n = omega arith in
       let less : (n + (2 ^ 64 - 1)) % 2 ^ 64 ≡ n - 1 = one_less n some_ bound in
       let knows = r.seats me v mine in let here : r.holder ≡ parked me = knows.leads (parked me) refl in let tally = knows.tallies l refl in
@@ -153,7 +147,7 @@ module _ {H A B T : Type 0} (answers : A → B → Type 0) (belongs : H → ℕ 
             (λ j d other. absurd (other (sym (some-injective me j (ap holder_seat (sym here) ∙ d))))) (λ j d other. absurd (other (sym (some-injective me j d)))) (λ _. refl) (λ d e. some-injective (last me) d e)
             task
             knows.in_scope
-            (λ m e. subst (Tallies (map entry_of r.places) (n - 1)) (some-injective (closed l) m e) (tally.0, (λ o. absurd (true≢false (sym o))), (λ _. omega arith))) refl refl),
+            (λ m e. subst (Tallies (map entry_of r.places) (n - 1)) (some-injective (closed l) m e) (tally.0, (λ o. absurd (true≢false (sym o))), (λ _. omega arith))) refl refl (tt, refl)),
         (some_, match_true _ _ n 1 one refl),
       ))
       (λ more. let w : View H A = view scope (Left ((0, n) ∷ l.log)) in (
@@ -163,6 +157,6 @@ module _ {H A B T : Type 0} (answers : A → B → Type 0) (belongs : H → ℕ 
         subst (λ (m : ℕ). Ru record { words = set s.words 0 m; homes = s.homes; views = set s.views me w }) (sym less)
             (at_count answers belongs lies_in key s r (n - 1) me v w waiting mine (omega arith) (λ i q e. nothing (i, q) e) (λ i q e. nothing (i, q) e)
             (λ j d other. absurd (other (sym (some-injective me j (ap holder_seat (sym here) ∙ d))))) (λ j d other. nothing j d) (λ d. nothing me d) (λ d e. nothing d e)
-            task knows.in_scope (λ m e. nothing m e) refl refl),
+            task knows.in_scope (λ m e. nothing m e) refl refl tt),
         (some_, match_false _ _ n 1 more refl),
       ))

@@ -1,7 +1,7 @@
 -- The rule of a board.
 -- Word 0 is the count. Word i + 1 and slot i are those of the place i, and word 17 and slot 16 those of the task.
 -- A word is 0 where its slot is empty, 1 while one seat holds the slot, and 2 where it is filled.
-use Rattle.std.specs.Prelude.{◌≡◌, ◌≢◌, ℕ, ◌+◌, ◌≤◌, Bool, true, false, List, [], ◌∷◌, map, length, replicate, slice_index, slice_set, Option, Some, None}
+use Rattle.std.specs.Prelude.{◌≡◌, ℕ, ◌+◌, ◌≤◌, Bool, true, false, List, [], ◌∷◌, map, length, replicate, slice_index, slice_set, Option, Some, None}
 use mathlib.Core.Option as opt
 use mathlib.Core.Option.{some, none}
 use lib.ListN.{get_elem?}
@@ -36,6 +36,7 @@ pub data Surplus : Type 0 where
   handled : ℕ → Surplus
   stored : Surplus
 
+-- the seat that a surplus slot belongs to at the moment
 abbrev pub surplus_seat : Surplus → opt.Option ℕ
 surplus_seat bare = none
 surplus_seat (handled j) = some j
@@ -47,14 +48,21 @@ surplus_claim j (Posting at l) = some (at, handled j)
 surplus_claim j (Fetching at log) = some (at, handled j)
 surplus_claim j _ = none
 
+-- what is in a surplus slot, by its word
 abbrev pub SurplusLies : {B T : Type 0} → (T → Type 0) → Surplus → ℕ → opt.Option (opt.Option (Option (Content B T))) → Type 0
 SurplusLies lies_in bare n h = (n ≡ 0) × (h ≡ some (some None))
 SurplusLies lies_in (handled j) n h = (n ≡ 1) × (h ≡ some none)
 SurplusLies lies_in stored n h = (n ≡ 2) × ((t : _) × (h ≡ some (some (Some (Task t)))) × lies_in t)
 
+-- what an owner knows: whether it is open, the asks, how often it spawned, and its log
 abbrev pub lead : {A : Type 0} → Bool → List (Option A) → ℕ → List (ℕ × ℕ) → Lead A
 lead is_open asks spawned log = record { is_open = is_open; asks = asks; spawned = spawned; log = log }
 
+-- an owner whose place k has this entry
+abbrev pub with_entry : {A : Type 0} → Lead A → ℕ → Option A → Lead A
+with_entry l k e = lead l.is_open (slice_set l.asks k e) l.spawned l.log
+
+-- the seat that has the lead
 abbrev pub holder_seat : Holder → opt.Option ℕ
 holder_seat (led j) = some j
 holder_seat (moving j) = some j
@@ -62,17 +70,21 @@ holder_seat (parked j) = some j
 holder_seat waiting = none
 holder_seat (last j) = some j
 
+-- what an owner weighs, by whether it is open
 abbrev pub one_if : Bool → ℕ
 one_if true = 1
 one_if false = 0
 
 module _ {H A : Type 0} where
+  -- a seat of this scope in this role
   abbrev pub view : Scope H → Role A → View H A
   view scope role = record { scope = Some scope; role = role }
 
+  -- a seat with no part in the scope any more
   abbrev pub spent : View H A
   spent = record { scope = None; role = Spent }
 
+  -- the first seat: an open owner with no place in use
   abbrev pub opening_view : Scope H → View H A
   opening_view scope = view scope (Owner (lead true (replicate 16 None) 0 []))
 
@@ -100,10 +112,11 @@ module _ {A : Type 0} where
   claim_of j (Emptying at a l) = some (at, emptying j a)
   claim_of j _ = none
 
+  -- where the lead is, by the role of the seat j that has it
   abbrev pub holder_of : ℕ → Role A → opt.Option Holder
   holder_of j (Owner l) = some (led j)
   holder_of j (Adding at a l) = some (led j)
-  holder_of j (Backing l) = some (led j)
+  holder_of j (Backing at a l) = some (led j)
   holder_of j (Emptying at a l) = some (led j)
   holder_of j (Moving l) = some (moving j)
   holder_of j (Parked l) = some (parked j)
@@ -111,10 +124,11 @@ module _ {A : Type 0} where
   holder_of j (Posting at l) = some (led j)
   holder_of j _ = none
 
+  -- what a seat that leads knows of the places and the count
   abbrev pub lead_of : Role A → opt.Option (Lead A)
   lead_of (Owner l) = some l
   lead_of (Adding at a l) = some l
-  lead_of (Backing l) = some l
+  lead_of (Backing at a l) = some (with_entry l at None)
   lead_of (Emptying at a l) = some l
   lead_of (Moving l) = some l
   lead_of (Parked l) = some l
@@ -130,7 +144,7 @@ module _ {A : Type 0} where
   weight Deposited = 1
   weight (Owner l) = one_if l.is_open
   weight (Adding at a l) = 1 + one_if l.is_open
-  weight (Backing l) = 1 + one_if l.is_open
+  weight (Backing at a l) = 1 + one_if l.is_open
   weight (Emptying at a l) = one_if l.is_open
   weight (Moving l) = one_if l.is_open
   weight (Parked l) = one_if l.is_open
@@ -147,6 +161,7 @@ Lies answers (filling j a) n h = (n ≡ 1) × (h ≡ some none)
 Lies answers (full a) n h = (n ≡ 2) × ((b : _) × (h ≡ some (some (Some (Answer b)))) × answers a b)
 Lies answers (emptying j a) n h = (n ≡ 1) × (h ≡ some none)
 
+-- what is in the task's slot, by its word and by where the lead is
 abbrev pub TaskLies : {B T : Type 0} → (T → Type 0) → Holder → ℕ → opt.Option (opt.Option (Option (Content B T))) → Type 0
 TaskLies fits (led j) n h = (n ≡ 0) × (h ≡ some (some None))
 TaskLies fits (moving j) n h = (n ≡ 1) × (h ≡ some none)
@@ -158,7 +173,25 @@ TaskLies fits (last j) n h = (n ≡ 2) × ((t : _) × (h ≡ some (some (Some (T
 abbrev pub Tallies : {A : Type 0} → List (Option A) → ℕ → Lead A → Type 0
 Tallies asks n l = (l.asks ≡ asks) × (l.is_open ≡ true → n ≤ l.spawned + 1) × (l.is_open ≡ false → n ≡ 0)
 
+-- it names a scope
+abbrev pub IsNamed : {H : Type 0} → Option (Scope H) → Type 0
+IsNamed None = ⊥
+IsNamed (Some scope) = Unit {0}
+
+-- What a role comes with. Each but a spent one and one that has left names its scope.
+-- The place of a child that is counted and has no seat is not in use yet, and one that was taken back was in use with the child's ask.
+-- Who has put the task down is open until it arrives, and the last to arrive is not.
+abbrev pub Stands : {H A : Type 0} → Option (Scope H) → Role A → Type 0
+Stands scope Spent = Unit {0}
+Stands scope (Left log) = Unit {0}
+Stands scope (Adding at a l) = IsNamed scope × (get_elem? l.asks at ≡ some None)
+Stands scope (Backing at a l) = IsNamed scope × (get_elem? l.asks at ≡ some (Some a))
+Stands scope (Parked l) = IsNamed scope × (l.is_open ≡ true)
+Stands scope (Last l) = IsNamed scope × (l.is_open ≡ false)
+Stands scope _ = IsNamed scope
+
 module _ {H A : Type 0} where
+  -- the parts of all seats in the count
   abbrev pub total : List (View H A) → ℕ
   total [] = 0
   total (v ∷ vs) = weight v.role + total vs
@@ -166,17 +199,20 @@ module _ {H A : Type 0} where
   -- what the seat j knows
   pub record Knows (key : Scope H) (places : List (Place A)) (holder : Holder) (n j : ℕ) (v : View H A) : Type 0 where
     pub in_scope : (scope : Scope H) → v.scope ≡ Some scope → scope ≡ key
+    pub stands : Stands v.scope v.role
     pub claims : (at : ℕ) (p : Place A) → claim_of j v.role ≡ some (at, p) → get_elem? places at ≡ some p
     pub leads : (d : Holder) → holder_of j v.role ≡ some d → holder ≡ d
     pub tallies : (l : Lead A) → lead_of v.role ≡ some l → Tallies (map entry_of places) n l
 
-  -- who holds a surplus slot, and who says so
+  -- a surplus slot that belongs to a seat is claimed by it
   abbrev pub SurplusHeld : List Surplus → List (View H A) → Type 0
   SurplusHeld surpluses views = (i : ℕ) (q : Surplus) (j : ℕ) → get_elem? surpluses i ≡ some q → surplus_seat q ≡ some j → (v : View H A) × (get_elem? views j ≡ some v) × (surplus_claim j v.role ≡ some (i, q))
 
+  -- what a seat claims of the surplus slots is so
   abbrev pub Handles : List Surplus → List (View H A) → Type 0
   Handles surpluses views = (j : ℕ) (v : View H A) → get_elem? views j ≡ some v → (i : ℕ) (q : Surplus) → surplus_claim j v.role ≡ some (i, q) → get_elem? surpluses i ≡ some q
 
+  -- The rule, of every moment. `held` and `seats`, `lent` and `seats`, `surplus_held` and `handles` together: what belongs to a seat belongs to exactly one.
   pub record Ruled {B T : Type 0} (answers : A → B → Type 0) (belongs : H → ℕ → List (Option A) → T → Type 0) (lies_in : H → ℕ → T → Type 0) (key : Scope H) (s : State (Option (Content B T)) (View H A)) : Type 0 where
     pub places : List (Place A)
     pub holder : Holder
@@ -193,14 +229,3 @@ module _ {H A : Type 0} where
     pub surplus_slots : (i : ℕ) (q : Surplus) → get_elem? surpluses i ≡ some q → SurplusLies (lies_in key.home key.pages) q (slice_index s.words (i + 18)) (get_elem? s.homes (i + 17))
     pub surplus_held : SurplusHeld surpluses s.views
     pub handles : Handles surpluses s.views
-
-module _ {H A B T : Type 0} (answers : A → B → Type 0) (belongs : H → ℕ → List (Option A) → T → Type 0) (lies_in : H → ℕ → T → Type 0) where
-  -- at most one seat leads
-  abbrev pub OneLeads : Type 0
-  OneLeads = (key : Scope H) (s : State (Option (Content B T)) (View H A)) (i j : ℕ) (v w : View H A) (l m : Lead A) → Ruled answers belongs lies_in key s
-      → get_elem? s.views i ≡ some v → get_elem? s.views j ≡ some w → lead_of v.role ≡ some l → lead_of w.role ≡ some m → i ≡ j
-
-  -- beside a leader that is not open, no seat may arrive any more
-  abbrev pub NoneArrives : Type 0
-  NoneArrives = (key : Scope H) (s : State (Option (Content B T)) (View H A)) (i j : ℕ) (v w : View H A) (l : Lead A) → Ruled answers belongs lies_in key s
-      → get_elem? s.views i ≡ some v → get_elem? s.views j ≡ some w → lead_of v.role ≡ some l → l.is_open ≡ false → weight w.role ≡ 0

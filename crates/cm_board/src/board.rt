@@ -3,8 +3,8 @@ ghost use Rattle.std.specs.Prelude.{◌≡◌, ◌≢◌, ℕ, ◌+◌, ◌^◌,
 ghost use mathlib.Core.Option.{some};
 ghost use lib.ListN.{get_elem?};
 ghost use Rattle.cm_board.specs.declared.view.Role.TheVariants.{Child, Deposited, Owner, Left};
-ghost use Rattle.cm_board.specs.Rule.{view, opening_view};
-ghost use Rattle.cm_board.specs.Play.{with_entry, noted};
+ghost use Rattle.cm_board.specs.Rule.{view, opening_view, with_entry};
+ghost use Rattle.cm_board.specs.Play.{noted};
 ghost use Rattle.cm_board.specs.Slots.{fits, IsOwner, IsLast, IsLeaver, lead_at, log_at, spawned_into, leaver};
 
 use crate::job::Job;
@@ -17,6 +17,7 @@ use crate::view::{Cargo, Content, Parked, Scope, View};
 use atomic_table::{Seat, Table};
 use std::alloc::{AllocError, Global};
 
+/// A seat at a board.
 pub type Place<B, T, S, H, A> = Seat<Option<Content<B, Cargo<T, S>>>, View<H, A>>;
 
 /// The table of one scope: word 0 is the count, and slot 16 is the task's.
@@ -85,7 +86,7 @@ impl<J: Job> Board<J> {
         requires child { seat.old.me ≡ (view self.now.table.shared.key Deposited, []) }
         ensures table { seat.new.table_id ≡ seat.old.table_id }
         ensures counted { 1 ≤ result }
-        ensures seat { MatchBool (result == 1) (IsLast self.now.table.shared.key seat.new.me × ((older : List (ℕ × ℕ)) × ((lead_at seat.new.me).log ≡ (0, 1) ∷ older))) (seat.new.me ≡ (view self.now.table.shared.key (Left ((0, result) ∷ [])), [])) }
+        ensures seat { MatchBool (result == 1) (IsLast self.now.table.shared.key seat.new.me × ((lead_at seat.new.me).log ≡ (0, 1) ∷ [])) (seat.new.me ≡ (view self.now.table.shared.key (Left ((0, result) ∷ [])), [])) }
     {
         self.table.shared.fetch_sub::<Arrive>(seat, 0, 1)
     }
@@ -126,6 +127,7 @@ impl<J: Job> Board<J> {
         requires child { child.me ≡ (view self.now.table.shared.key (Child place ask.now), []) }
         ensures table { seat.new.table_id ≡ seat.old.table_id }
         ensures seat { seat.new.me ≡ (view self.now.table.shared.key (Owner (with_entry (lead_at seat.old.me) place None)), []) }
+        ensures entry { get_elem? (lead_at seat.old.me).asks place ≡ some (Some ask.now) }
     {
         let _place = place;
         let _ask = ask;

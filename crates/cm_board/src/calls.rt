@@ -18,7 +18,7 @@ use std::sync::Arc;
 /// An open owner of a new scope, with no place in use.
 pub fn start<J: Job>(alloc: Global, pages: u32, home: J::Home) -> Result<Owner<J>, Memory>
     ensures scope { IfOk result (λ o. (home_of o ≡ home) × (pages_of o ≡ pages)) }
-    ensures owner { IfOk result (λ o. (o.is_open ≡ true) × (asks_of o ≡ replicate 16 None)) }
+    ensures owner { IfOk result (λ o. (o.is_open ≡ true) × (asks_of o ≡ replicate 16 None) × (log_of o ≡ [])) }
 {
     let scope = Scope { home, pages };
     let Ok((board, seat)) = Board::open(alloc, &scope) else {
@@ -74,6 +74,7 @@ pub fn spawn<J: Job>(owner: &mut Owner<J>, ask: J::Ask) -> Result<Child<J>, Memo
     requires room { first_free (asks_of owner.old) < 16 }
     ensures scope { board_of owner.new ≡ board_of owner.old }
     ensures open { owner.new.is_open ≡ true }
+    ensures log { log_of owner.new ≡ log_of owner.old }
     ensures spawned { MatchResult result (λ c. asks_of owner.new ≡ slice_set (asks_of owner.old) (first_free (asks_of owner.old)) (Some ask)) (λ _. asks_of owner.new ≡ asks_of owner.old) }
     ensures child { IfOk result (λ c. (child_board_of c ≡ board_of owner.old) × (c.place ≡ first_free (asks_of owner.old)) × (c.ask ≡ ask) × (c.is_full ≡ false)) }
 {
@@ -96,13 +97,15 @@ pub fn spawn<J: Job>(owner: &mut Owner<J>, ask: J::Ask) -> Result<Child<J>, Memo
     })
 }
 
-/// Undoes a spawn whose child hasn't deposited.
+/// Undoes a spawn whose child hasn't deposited. Its place was in use with its ask, and isn't any more.
 pub fn back<J: Job>(owner: &mut Owner<J>, child: Child<J>) -> J::Ask
     requires open { owner.old.is_open ≡ true }
     requires child { (child_board_of child ≡ board_of owner.old) × (child.is_full ≡ false) }
     ensures scope { board_of owner.new ≡ board_of owner.old }
     ensures open { owner.new.is_open ≡ true }
     ensures place { asks_of owner.new ≡ slice_set (asks_of owner.old) child.place None }
+    ensures entry { get_elem? (asks_of owner.old) child.place ≡ some (Some child.ask) }
+    ensures log { log_of owner.new ≡ log_of owner.old }
     ensures ask { result ≡ child.ask }
 {
     let Child {
@@ -156,7 +159,7 @@ fn last<J: Job>(
 pub fn arrive<J: Job>(child: Child<J>) -> Arrived<J>
     requires full { child.is_full ≡ true }
     ensures earlier { WhenEarlier result (λ l. (leave_board_of l ≡ child_board_of child) × (l.is_spent ≡ false) × ((n : ℕ) × (1 < n) × (leave_log_of l ≡ (counter_word, n) ∷ []))) }
-    ensures last { WhenLast result (λ o t. (board_of o ≡ child_board_of child) × (o.is_open ≡ false) × ((older : List (ℕ × ℕ)) × (log_of o ≡ (counter_word, 1) ∷ older)) × J.belongs (child_home_of child) (child_pages_of child) (asks_of o) t) }
+    ensures last { WhenLast result (λ o t. (board_of o ≡ child_board_of child) × (o.is_open ≡ false) × (log_of o ≡ (counter_word, 1) ∷ []) × J.belongs (child_home_of child) (child_pages_of child) (asks_of o) t) }
 {
     let Child {
         board,

@@ -15,7 +15,7 @@ mod view;
 pub use board::Board;
 pub use calls::{arrive, back, collect, deposit, fetch, park, post, spawn, start};
 pub use job::Job;
-pub use law::last_comes_once;
+pub use law::{each_slot_is_accounted_for, last_comes_once};
 pub use owner::{Arrived, Child, Leave, Owner};
 pub use rule::BoardRule;
 pub use view::{Cargo, Content, Lead, Parked, Role, Scope, View};

@@ -14,7 +14,9 @@ use std::sync::Arc;
 pub struct Owner<J: Job> {
     pub(crate) board: Arc<Board<J>, Global>,
     pub(crate) seat: Place<J::Answer, J::Task, J::Surplus, J::Home, J::Ask>,
+    /// Whether it may spawn, post and park: until it is handed out by Last.
     pub is_open: bool,
+    /// How often it spawned. The join counter is at most one more.
     pub spawned: u64,
     pub(crate) marks: [bool; 16],
     ghost whole: { length marks ≡ 16 },
@@ -31,7 +33,9 @@ pub struct Child<J: Job> {
     pub(crate) board: Arc<Board<J>, Global>,
     pub(crate) seat: Place<J::Answer, J::Task, J::Surplus, J::Home, J::Ask>,
     pub(crate) place: u32,
+    /// What it is to answer.
     pub ask: J::Ask,
+    /// Whether it has deposited.
     pub is_full: bool,
     ghost seated: { seat.table_id ≡ (arc_value board).table.shared.table_id },
     ghost stands: { seat.me ≡ (view (arc_value board).table.shared.key (child_stage is_full place ask), []) },
@@ -43,13 +47,17 @@ pub struct Child<J: Job> {
 pub struct Leave<J: Job> {
     pub(crate) board: Arc<Board<J>, Global>,
     pub(crate) seat: Place<J::Answer, J::Task, J::Surplus, J::Home, J::Ask>,
+    /// Whether it has fetched surplus.
     pub is_spent: bool,
     ghost seated: { seat.table_id ≡ (arc_value board).table.shared.table_id },
     ghost stands: { IsLeaver (arc_value board).table.shared.key is_spent seat.me },
 }
 
+/// What arriving answers.
 #[derive(Drop)]
 pub enum Arrived<J: Job> {
+    /// Others are still to arrive.
     Earlier(Leave<J>),
+    /// All have arrived: the owner, with an answer in every place in use, and the task that was parked.
     Last(Owner<J>, J::Task),
 }

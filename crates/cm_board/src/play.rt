@@ -32,8 +32,10 @@ impl<H, A, B, T> Play<Option<Content<B, T>>, View<H, A>> for Arrive {
 
 /// The place and the ask of a child, which the call that counts it picks.
 pub trait Naming<A> {
+    // The place.
     ghost at: { ℕ };
 
+    // The ask.
     ghost ask: { Option A };
 }
 

@@ -4,6 +4,7 @@ use crate::view::{Cargo, Content, Scope, View};
 use atomic_table::TableRule;
 use std::marker::PhantomData;
 
+/// The join counter is the sum of what the seats weigh, and each place, the task and each surplus slot is empty, filled with what fits, or with exactly one seat, which says so.
 pub struct BoardRule<J> {
     job: PhantomData<J>,
 }

@@ -6,7 +6,7 @@ use lib.ListN.{get_elem?}
 use Rattle.atomic_table.specs.Table.{State, Me}
 use Rattle.cm_rack.specs.declared.view.View.{View}
 use Rattle.cm_rack.specs.declared.view.View.TheVariants.{Spent, Idle, Putting, Holding, Placed, Taking}
-use Rattle.cm_rack.specs.Rule.{Place, bare, held, full, seat_of, claim_of, name_of, hold_of, Ruled, OneTicket, IsThere, IsNamed, OneHolder}
+use Rattle.cm_rack.specs.Rule.{Place, bare, held, full, seat_of, claim_of, name_of, hold_of, Ruled, OneTicket, IsThere, IsNamed, OneHolder, IsHeld, Lies}
 use Rattle.cm_rack.specs.Views.{place_of, IsIdle, log_of}
 use Rattle.cm_rack.proofs.RebuildLaw.{there}
 
@@ -57,6 +57,19 @@ module _ {G : Type 0} where
   claim_name j (Taking at) k i g e = ap name_in (some-injective (at, held j) (k, full i g) e)
   claim_name j Spent k i g e = absurd (some-ne-none _ (sym e))
   claim_name j (Idle log) k i g e = absurd (some-ne-none _ (sym e))
+
+  abbrev hold_in : ℕ × Place G → opt.Option ℕ
+  hold_in (k, held j) = some k
+  hold_in (k, bare) = none
+  hold_in (k, full j g) = none
+
+  claim_hold : (j : ℕ) (v : View G) (k i : ℕ) → claim_of j v ≡ some (k, held i) → hold_of v ≡ some k
+  claim_hold j (Putting at log) k i e = ap hold_in (some-injective (at, held j) (k, held i) e)
+  claim_hold j (Taking at) k i e = ap hold_in (some-injective (at, held j) (k, held i) e)
+  claim_hold j (Holding at h log) k i e = ap hold_in (some-injective (at, full j h) (k, held i) e)
+  claim_hold j (Placed at h) k i e = ap hold_in (some-injective (at, full j h) (k, held i) e)
+  claim_hold j Spent k i e = absurd (some-ne-none _ (sym e))
+  claim_hold j (Idle log) k i e = absurd (some-ne-none _ (sym e))
 
   -- the one view of a ticket
   pub ticket_views : (k : ℕ) (vs : List (View G)) → place_of vs ≡ Some k → (g : G) × (vs ≡ Placed k g ∷ [])
@@ -110,3 +123,12 @@ module _ {T G : Type 0} (tag : T → G) where
   one_holder s i j k v w r at_i at_j ni nj =
       let a = r.claims i v at_i k (held i) (hold_claim i v k ni) in let b = r.claims j w at_j k (held j) (hold_claim j w k nj) in
       (some-injective i j (ap seat_of (some-injective (held i) (held j) (sym a ∙ b))), (r.slots k (held i) a).0)
+
+  held_by : (s : State (Option T) (View G)) (r : Ruled tag s) (k n : ℕ) (h : opt.Option (opt.Option (Option T))) (p : Place G) → get_elem? r.places k ≡ some p → Lies tag p n h → n ≡ 1
+      → (j : ℕ) × (v : View G) × (get_elem? s.views j ≡ some v) × (hold_of v ≡ some k)
+  held_by s r k n h bare at lies one = let zero_ = lies.0 in absurd (omega (arith, zero_, one))
+  held_by s r k n h (held j) at lies one = let u = r.owned k (held j) j at refl in (j, u.0, u.1, claim_hold j u.0 k j u.2)
+  held_by s r k n h (full j g) at lies one = let two = lies.0 in absurd (omega (arith, two, one))
+
+  pub is_held : IsHeld tag
+  is_held s k r below one = let sized = r.sized in let p = some_place r.places k (omega (arith, below, sized)) in held_by s r k _ _ p.0 p.1 (r.slots k p.0 p.1) one

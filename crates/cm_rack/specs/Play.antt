@@ -10,11 +10,12 @@ module _ {T G : Type 0} where
   put_tried at held (Idle log) found after = (found ≡ 0 → after ≡ (Putting at ((at, 0) ∷ log), (at, None) ∷ held)) × (found ≢ 0 → after ≡ (Idle ((at, found) ∷ log), held))
   put_tried at held _ found after = Unit {0}
 
-  -- a hand has put this down
+  -- a hand has put this task down, and knows its tag
   abbrev pub put_down : (T → G) → ℕ → List (ℕ × ℕ) → List (ℕ × Option T) → Option T → Me (Option T) (View G) → Type 0
   put_down tag k log held (Some t) after = after ≡ (Holding k (tag t) log, held)
   put_down tag k log held None after = Unit {0}
 
+  -- a hand has put down what was in the first slot that it held
   abbrev pub put_first : (T → G) → ℕ → List (ℕ × ℕ) → List (ℕ × Option T) → Me (Option T) (View G) → Type 0
   put_first tag k log [] after = Unit {0}
   put_first tag k log (x ∷ held) after = put_down tag k log held x.1 after
@@ -34,11 +35,12 @@ module _ {T G : Type 0} where
   emptied held (Taking k) found after = after ≡ (Spent, rest held)
   emptied held _ found after = Unit {0}
 
--- a hand that has filled a place: its own part, and the ticket's
+-- a hand that has filled a place, once the ticket has left it
 abbrev pub hand_part : {G : Type 0} → View G → View G
 hand_part (Holding k g log) = Idle log
 hand_part _ = Spent
 
+-- the ticket of a hand that has filled a place
 abbrev pub ticket_part : {G : Type 0} → View G → View G
 ticket_part (Holding k g log) = Placed k g
 ticket_part _ = Spent

@@ -1,6 +1,6 @@
 -- The rule of a rack.
 -- Word i and slot i are those of the place i. A word is 0 where its slot is empty, 1 while one seat holds the slot, and 2 where it is filled.
-use Rattle.std.specs.Prelude.{◌≡◌, ℕ, ◌+◌, List, length, slice_index, Option, Some, None}
+use Rattle.std.specs.Prelude.{◌≡◌, ℕ, ◌+◌, ◌<◌, List, length, slice_index, Option, Some, None}
 use mathlib.Core.Option as opt
 use mathlib.Core.Option.{some, none}
 use lib.ListN.{get_elem?}
@@ -48,7 +48,7 @@ Lies tag (held j) n h = (n ≡ 1) × (h ≡ some none)
 Lies tag (full j g) n h = (n ≡ 2) × ((t : _) × (h ≡ some (some (Some t))) × (tag t ≡ g))
 
 module _ {T G : Type 0} (tag : T → G) where
-  -- `owned` and `claims` together: each place that belongs to a seat belongs to exactly one
+  -- The rule, of every moment. `owned` and `claims` together: each place that belongs to a seat belongs to exactly one
   pub record Ruled (s : State (Option T) (View G)) : Type 0 where
     pub places : List (Place G)
     pub sized : length s.homes ≡ length places
@@ -76,3 +76,8 @@ module _ {T G : Type 0} (tag : T → G) where
   abbrev pub OneHolder : Type 0
   OneHolder = (s : State (Option T) (View G)) (i j k : ℕ) (v w : View G) → Ruled s
       → get_elem? s.views i ≡ some v → get_elem? s.views j ≡ some w → hold_of v ≡ some k → hold_of w ≡ some k → (i ≡ j) × (slice_index s.words k ≡ 1)
+
+  -- a place whose word is 1 is held by a seat
+  abbrev pub IsHeld : Type 0
+  IsHeld = (s : State (Option T) (View G)) (k : ℕ) → Ruled s → k < length s.homes → slice_index s.words k ≡ 1
+      → (j : ℕ) × (v : View G) × (get_elem? s.views j ≡ some v) × (hold_of v ≡ some k)

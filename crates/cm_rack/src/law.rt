@@ -1,5 +1,5 @@
 //! What the rule says of tickets.
-ghost use Rattle.cm_rack.specs.Rule.{OneTicket, IsThere, IsNamed, OneHolder};
+ghost use Rattle.cm_rack.specs.Rule.{OneTicket, IsThere, IsNamed, OneHolder, IsHeld};
 
 use crate::racked::Racked;
 
@@ -9,4 +9,5 @@ pub fn one_ticket_each<T: Racked>()
     ensures there { IsThere T.tag }
     ensures named { IsNamed T.tag }
     ensures holder { OneHolder T.tag }
+    ensures held { IsHeld T.tag }
 {}

@@ -1,6 +1,6 @@
 //! Making a rack, with its hands.
 ghost use Rattle.std.specs.Prelude.{◌≡◌, ◌+◌, ◌<◌, [], ◌∷◌, replicate, vec_len, All, IfOk};
-ghost use Rattle.cm_rack.specs.Seen.{rack_of, places_of, hand_rack};
+ghost use Rattle.cm_rack.specs.Seen.{rack_of, places_of, hand_rack, found_by};
 ghost use Rattle.cm_rack.specs.declared.view.View.TheVariants.{Idle};
 
 use crate::play::Another;
@@ -50,7 +50,7 @@ impl<T: Drop + Racked> Rack<T> {
         requires idle { seat.old.me ≡ (Idle [], []) }
         ensures table { seat.new.table_id ≡ seat.old.table_id }
         ensures idle { seat.new.me ≡ (Idle [], []) }
-        ensures hand { result.seat.table_id ≡ self.now.table.shared.table_id }
+        ensures hand { (result.seat.table_id ≡ self.now.table.shared.table_id) × (found_by result ≡ []) }
     {
         Hand {
             seat: self.table.shared.split_seat::<Another>(seat),
@@ -58,7 +58,7 @@ impl<T: Drop + Racked> Rack<T> {
     }
 }
 
-/// A rack of empty places, and as many hands as were asked for.
+/// A rack of empty places, and as many hands as were asked for, none of which has put anything.
 pub fn rack<T: Drop + Racked>(
     alloc: Global,
     places: u32,
@@ -67,6 +67,7 @@ pub fn rack<T: Drop + Racked>(
     ensures places { IfOk result (λ r. places_of r.0 ≡ places) }
     ensures hands { IfOk result (λ r. vec_len r.1 ≡ hands) }
     ensures table { IfOk result (λ r. All (λ h. hand_rack h ≡ rack_of r.0) r.1.items) }
+    ensures fresh { IfOk result (λ r. All (λ h. found_by h ≡ []) r.1.items) }
 {
     let (rack, mut seat) = open::<T>(alloc, places)?;
     let count = hands as usize;

@@ -1,5 +1,8 @@
 //! Each child answers a list with a fact in its type, and the surplus is a list too.
-ghost use Rattle.std.specs.Prelude.{◌≡◌, IfSome, vec_len};
+ghost use Rattle.std.specs.Prelude.{◌≡◌, IfSome, Some, vec_len};
+ghost use mathlib.Core.Option.{some};
+ghost use lib.ListN.{get_elem?};
+ghost use Rattle.cm_board.specs.Seen.{asks_of};
 
 use crate::{Arrived, Job, Owner, arrive, collect, deposit, fetch, park, post, spawn, start};
 use std::alloc::Global;
@@ -34,15 +37,16 @@ impl Job for Lists {
     ghost lies_in = { λ home pages surplus. surplus.len ≡ pages };
 }
 
-// The answer at the place 0, where it is in use.
-fn first_answer(owner: &mut Owner<Lists>) -> Option<Measured> {
-    if owner.used(0) {
-        return collect(owner, 0);
-    }
-    None
+// The answer at the place 0, which answers the ask there.
+fn first_answer(owner: &mut Owner<Lists>, ask: &Vec<u32>) -> Option<Measured>
+    requires { (a : _) × (get_elem? (asks_of owner.old) 0 ≡ some (Some a)) × (a.value.items ≡ ask.now.items) }
+    ensures { IfSome result (λ b. b.items.items ≡ ask.now.items) }
+{
+    let _ask = ask;
+    collect(owner, 0)
 }
 
-// The owner posts surplus, which the child that left the scope fetches, and collects the child's list when it has parked.
+// The owner posts surplus, which the child that left the scope fetches, and collects the child's list when it has parked: the list that it asked for.
 fn pair(
     alloc: Global,
     ask: &Vec<u32>,
@@ -51,7 +55,8 @@ fn pair(
 ) -> Option<(Measured, Measured)>
     requires answer { answer.items.items ≡ ask.now.items }
     requires surplus { surplus.len ≡ 1 }
-    ensures { IfSome result (λ r. (vec_len r.0.items ≡ r.0.len) × (vec_len r.1.items ≡ 1)) }
+    ensures answer { IfSome result (λ r. (r.0.items.items ≡ ask.now.items) × (vec_len r.0.items ≡ r.0.len)) }
+    ensures surplus { IfSome result (λ r. vec_len r.1.items ≡ 1) }
 {
     let Ok(mut owner) = start::<Lists>(alloc, 1, Snapshot::of(ask)) else {
         return None;
@@ -72,7 +77,7 @@ fn pair(
     let Arrived::Last(mut owner, _task) = park(owner, 1) else {
         return None;
     };
-    match first_answer(&mut owner) {
+    match first_answer(&mut owner, ask) {
         Some(answer) => Some((answer, fetched)),
         None => None,
     }

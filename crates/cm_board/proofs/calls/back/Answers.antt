@@ -1,7 +1,6 @@
-use Rattle.std.proofs.Common.{rules, ◌≡◌, ap, ◌∙◌, sym, None, subst, map, [], arith, length-set}
+use Rattle.std.proofs.Common.{rules, ◌≡◌, ap, ◌∙◌, sym, None, subst, map, [], length-set}
 use Rattle.cm_board.specs.declared.view.Role.TheVariants.{Owner}
-use Rattle.cm_board.specs.Rule.{view}
-use Rattle.cm_board.specs.Play.{with_entry}
+use Rattle.cm_board.specs.Rule.{view, with_entry}
 use Rattle.cm_board.specs.Slots.{lead_at, is_used}
 use Rattle.cm_board.proofs.MarkLaw.{marked, is_owner}
 use Rattle.cm_board.proofs.calls.back.Goals as goal

@@ -1,9 +1,9 @@
-use Rattle.std.proofs.Common.{rules, ◌≡◌, ◌<◌, ◌+◌, ℕ, ap, ◌∙◌, sym, None, Some, subst, map, [], arith, length, length-set}
+use Rattle.std.proofs.Common.{rules, ◌≡◌, ◌<◌, ◌+◌, ℕ, ap, ◌∙◌, sym, None, Some, subst, map, [], length, length-set}
 use mathlib.Core.Option.{some}
 use lib.ListN.{get_elem?}
 use Rattle.cm_board.specs.declared.view.Role.TheVariants.{Owner}
 use Rattle.cm_board.specs.Rule.{view}
-use Rattle.cm_board.specs.Slots.{lead_at, is_used, spawned_into, first_free, first_false}
+use Rattle.cm_board.specs.Slots.{lead_at, is_used, spawned_into, first_free}
 use Rattle.cm_board.proofs.MarkLaw.{marked, is_owner, first_unused}
 use Rattle.cm_board.proofs.calls.spawn.Goals as goal
 

@@ -1,6 +1,6 @@
-use Rattle.std.proofs.Common.{rules, subst, sym, ap, ◌∙◌}
+use Rattle.std.proofs.Common.{rules}
 use Rattle.cm_board.proofs.CalledLaw.{tries_at, empties_at}
-use Rattle.cm_board.proofs.ReadingLaw.{after_exchange, tried_at, emptied_at, slot_there, found_there}
+use Rattle.cm_board.proofs.ReadingLaw.{after_exchange, tried_at, slot_there}
 use Rattle.cm_board.proofs.board.Board.collect.Goals as goal
 
 pub compare_exchange-found-requires : goal.compare_exchange-found-requires

@@ -1,6 +1,6 @@
-use Rattle.std.proofs.Common.{rules, sym, ap, ◌∙◌}
+use Rattle.std.proofs.Common.{rules}
 use Rattle.cm_board.proofs.CalledLaw.{tries_fetch_at, fetches_at}
-use Rattle.cm_board.proofs.ReadingLaw.{after_exchange, slot_there, fetch_tried_at, fetched_at}
+use Rattle.cm_board.proofs.ReadingLaw.{after_exchange, slot_there, fetch_tried_at}
 use Rattle.cm_board.proofs.board.Board.fetch.Goals as goal
 
 pub compare_exchange-found-requires : goal.compare_exchange-found-requires

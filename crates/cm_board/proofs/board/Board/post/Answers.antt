@@ -1,6 +1,6 @@
-use Rattle.std.proofs.Common.{rules, sym, ap, ◌∙◌}
+use Rattle.std.proofs.Common.{rules}
 use Rattle.cm_board.proofs.CalledLaw.{tries_post_at, posts_at}
-use Rattle.cm_board.proofs.ReadingLaw.{after_exchange, slot_there, post_tried_at, posted_at}
+use Rattle.cm_board.proofs.ReadingLaw.{after_exchange, slot_there, post_tried_at}
 use Rattle.cm_board.proofs.board.Board.post.Goals as goal
 
 pub compare_exchange-found-requires : goal.compare_exchange-found-requires

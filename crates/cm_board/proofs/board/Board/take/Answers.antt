@@ -1,6 +1,6 @@
-use Rattle.std.proofs.Common.{rules, subst, sym, ap, ◌∙◌}
+use Rattle.std.proofs.Common.{rules}
 use Rattle.cm_board.proofs.CalledLaw.{takes_at, lays_at}
-use Rattle.cm_board.proofs.ReadingLaw.{after_exchange, taken_at, laid_at, slot_there, found_there}
+use Rattle.cm_board.proofs.ReadingLaw.{after_exchange, taken_at, slot_there}
 use Rattle.cm_board.proofs.board.Board.take.Goals as goal
 
 pub compare_exchange-requires : goal.compare_exchange-requires

@@ -1,5 +1,5 @@
-use Rattle.std.proofs.Common.{◌≡◌, ℕ, ◌<◌, ◌≤◌, subst, get_or, true, false, List, Bool, length, arith, sym, ap, ◌∙◌}
-use Rattle.cm_board.specs.Slots.{lead_at, first_false}
+use Rattle.std.proofs.Common.{◌≡◌, length, arith, sym, ap, ◌∙◌}
+use Rattle.cm_board.specs.Slots.{first_false}
 use Rattle.cm_board.proofs.MarkLaw.{first_is, none_is}
 use Rattle.cm_board.proofs.owner.Owner.free.Goals as goal
 

@@ -1,4 +1,4 @@
-use Rattle.std.proofs.Common.{◌≡◌, ℕ, ◌<◌, subst, get_or, true, false, List, Bool, length, arith, sym, ap, ◌∙◌}
+use Rattle.std.proofs.Common.{◌≡◌, ℕ, ◌<◌, subst, get_or, true, false, List, Bool, length, sym}
 use Rattle.cm_board.specs.Slots.{lead_at}
 use Rattle.cm_board.proofs.MarkLaw.{used_at, unused_at}
 use Rattle.cm_board.proofs.owner.Owner.used.Goals as goal

@@ -2,4 +2,4 @@ use Rattle.std.proofs.Common.{arith}
 use Rattle.cm_board.proofs.tests.lists.first_answer.Goals as goal
 
 pub collect-requires : goal.collect-requires
-collect-requires c = record { used = (omega arith, c.used.ensures.used c.if-used.true) }
+collect-requires c = record { used = (omega arith, (_, c.requires.1)) }
