@@ -1,19 +1,20 @@
 -- A step on some words is the same step beside other words, which it leaves alone; and with what it needs of all of
 -- them it goes on as it does on all.
-use Rattle.std.proofs.Common.{◌≡◌, ℕ, ◌<◌, List, [], ◌∷◌, length, Option, None, Some, refl, sym, ◌∙◌, subst, arith}
+use Rattle.std.proofs.Common.{◌≡◌, ℕ, ◌<◌, List, [], ◌∷◌, length, Option, None, Some, refl, sym, ap, ◌∙◌, subst, arith}
 use Rattle.std.proofs.lemmas.Bool.{eq-eqb, eqb-true, ltb-true}
 use Rattle.std.specs.Prelude.{Bool, true, false, ◌==◌, ◌&&◌, if◌then◌else◌, nat_le, nat_lt, ℤ, pos, slice_get, ⊤}
 use Rattle.cm_syntax.specs.declared.stmt.Function.{Function}
 use Rattle.cm_syntax.specs.declared.stmt.Program.{Program}
 use Rattle.cm_syntax.specs.Label.{silent, stuck}
-use Rattle.cm_syntax.specs.Cell.{Cell, absent, unset, present, is_held, value_in, may_write, Loan, unlent, to_read, lent_cell, kept_cell, CellSum}
-use Rattle.cm_syntax.specs.Stack.{Reference, Stack, Argument, write_word, clear_words, write_reference, word_parameter, slice_parameter, push_frame, pop_frame, lent_word, lent_reference, StackSum, IsUnder}
+use Rattle.cm_syntax.specs.Cell.{Cell, absent, unset, present, shared, is_held, value_in, may_write, Loan, unlent, to_read, to_write, lent_cell, kept_cell, CellSum}
+use Rattle.cm_syntax.specs.Stack.{Reference, Stack, Destination, Argument, loan_of, lent_stack, kept_stack, write_word, clear_words, write_reference, word_parameter, slice_parameter, push_frame, pop_frame, lent_word, lent_reference, StackSum, IsUnder}
 use Rattle.cm_syntax.specs.Rest.{Item, end, Hand, idle, holds, returned, entering, framing, Control}
 use Rattle.cm_syntax.specs.Step.{Move, top, rest_at_join, when_readable, when_writable, leave, call_bytes_in, push_call, end_call, item_step, hand_step, step}
 use Rattle.cm_meaning.proofs.Walk.{Change, nothing, word, zeros, parts, changed, MayChange, Rules}
 use Rattle.cm_meaning.proofs.WalkLaw.{item_law}
-use Rattle.cm_meaning.specs.Law.{IsBeside, writes_next, HasNeeded}
-use Rattle.cm_syntax.proofs.CellLaw.{cell_nothing, writable_alone, writable_sum, value_sum, held_value, loan_sum}
+use Rattle.cm_meaning.proofs.SumLaw.{part_sum}
+use Rattle.cm_meaning.specs.Law.{PartsBeside, IsBeside, writes_next, HasNeeded}
+use Rattle.cm_syntax.proofs.CellLaw.{cell_same, cell_nothing, writable_alone, writable_sum, value_sum, held_value, loan_sum, whole_left, read_only}
 use Rattle.cm_syntax.proofs.AccessLaw.{reading, writing, reads_value, writes_on, writes_no_loan}
 
 pub and_true : (x y : Bool) → (x && y) ≡ true → (x ≡ true) × (y ≡ true)
@@ -47,6 +48,31 @@ stuck_read c l h = reading (λ m. m ≡ stuck) refl c l h
 
 stuck_write : {A : Type 0} (c : Cell A) (m : Move) → (may_write c ≡ true → m ≡ stuck) → when_writable c m ≡ stuck
 stuck_write c m h = writing (λ m. m ≡ stuck) refl c m h
+
+-- what is lent and may be written is lent of the whole, and what is kept so is kept
+whole_lent : {A : Type 0} (l : Loan) (a b c : Cell A) → CellSum a b c → may_write (lent_cell l a) ≡ true → lent_cell l c ≡ lent_cell l a
+whole_lent unlent a b c s m = refl
+whole_lent to_write a b c s m = (whole_left a b c s m).0
+whole_lent to_read a b c s m = cc (sym (read_only a) ∙ m)
+
+whole_kept : {A : Type 0} (l : Loan) (a b c : Cell A) → CellSum a b c → may_write (kept_cell l a) ≡ true → kept_cell l c ≡ kept_cell l a
+whole_kept unlent a b c s m = (whole_left a b c s m).0
+whole_kept to_write a b c s m = refl
+whole_kept to_read absent b c s m = cc m
+whole_kept to_read unset b c s m = ap (kept_cell to_read) (whole_left unset b c s refl).0
+whole_kept to_read (present v) b c s m = cc m
+whole_kept to_read (shared p v) b c s m = cc m
+
+-- a part of a part, beside the same, is one whole
+one_whole : {A : Type 0} (x y v z c w u : Cell A) → CellSum x y v → CellSum v c w → CellSum x y z → CellSum z c u → w ≡ u
+one_whole x y v z c w u e f g h = cell_same z c w u (subst (λ q. CellSum q c w) (cell_same x y v z e g) f) h
+
+-- what is lent and kept beside the words is together the whole
+pub parted_whole : (b lent kept l k h g : Stack) → PartsBeside b lent kept l k → StackSum lent kept h → StackSum h b g → StackSum l k g
+parted_whole b lent kept l k h g p a s = record {
+  words = λ d t i. subst (λ z. CellSum (l.words d t i) (k.words d t i) z) (one_whole (lent.words d t i) (kept.words d t i) (p.before.words d t i) (h.words d t i) (b.words d t i) (p.whole.words d t i) (g.words d t i) (p.alone.words d t i) (p.beside.words d t i) (a.words d t i) (s.words d t i)) (p.parted.words d t i);
+  references = λ d t. subst (λ z. CellSum (l.references d t) (k.references d t) z) (one_whole (lent.references d t) (kept.references d t) (p.before.references d t) (h.references d t) (b.references d t) (p.whole.references d t) (g.references d t) (p.alone.references d t) (p.beside.references d t) (a.references d t) (s.references d t)) (p.parted.references d t);
+}
 
 -- the move isn't stuck
 abbrev GoesOn : Move → Type 0
@@ -184,6 +210,18 @@ module _ (program : Program) (page : ℕ) (input : List ℤ) (a b g : Stack) (o 
   sum_changed (zeros s n) m = sum_zeroed (top c.calls) s n m
   sum_changed (parts l r x n) m = sum_set _ _ (top c.calls) r _ m.1 (sum_set a g (top c.calls) l _ m.0 o)
 
+  -- a spawn parts the whole, with the other words
+  parts_beside : (x : Destination) (ws : List Argument) → PartsBeside b (lent_stack a x ws) (kept_stack a x ws) (lent_stack g x ws) (kept_stack g x ws)
+  parts_beside x ws = record {
+    before = a;
+    whole = g;
+    alone = part_sum a x ws;
+    beside = o;
+    parted = part_sum g x ws;
+    same_lent = λ d s i m. whole_lent (loan_of x ws d s i) (a.words d s i) (b.words d s i) (g.words d s i) (o.words d s i) m;
+    same_kept = λ d s i m. whole_kept (loan_of x ws d s i) (a.words d s i) (b.words d s i) (g.words d s i) (o.words d s i) m;
+  }
+
   rules : (q : Bool) (k : List Item) → Rules q IsAway IsAwayReference (λ f m. Agrees q f) c c.account c.rest k k
   rules q k = record {
     none = stops;
@@ -194,7 +232,7 @@ module _ (program : Program) (page : ℕ) (input : List ℤ) (a b g : Stack) (o 
     writes_reference = λ w d s f m e. by_set w d s f e;
     goes = λ x y new m p. leaf (λ l u. (changed (top c.calls) x g, refl, sum_changed x m)) tt;
     called = λ f ws. same _;
-    spawns = λ f ws x m. leaf (λ l. (_, _, refl)) tt;
+    spawns = λ f ws x m. leaf (λ l. (_, _, refl, parts_beside x ws)) tt;
     ticks = λ y. leaf (λ l u. (g, refl, o)) tt;
     prints = λ v. leaf (λ l u. (g, refl, o)) tt;
     syncs = λ y. leaf (λ l. refl) tt;

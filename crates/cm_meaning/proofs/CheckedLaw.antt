@@ -37,7 +37,7 @@ some_page page (inr (inl e)) = omega (arith, e)
 some_page page (inr (inr e)) = omega (arith, e)
 
 -- each function's text obeys the rule
-obeys : (program : Program) → IsAccepted program → (index : ℕ) (function : Function ℕ) → slice_get program.functions index ≡ Some function → Obeys (function_order function) (λ m. ⊤) []
+pub obeys : (program : Program) → IsAccepted program → (index : ℕ) (function : Function ℕ) → slice_get program.functions index ≡ Some function → Obeys (function_order function) (λ m. ⊤) []
 obeys program accepted index function e =
     let among = Contains-at program.functions index function e in
     obedient (function_order function) (λ walk w spawn variable at l. accepted.lent at spawn (function, among, (variable, (walk, w, l)))) (λ at d. accepted.same at (function, among, d))
@@ -48,13 +48,13 @@ comes a b (inl e) = back_same a b e
 comes a b (inr e) = back_whole a b e.0 (present_held b e.1)
 
 module _ (program : Program) (input : List ℤ) (limits : Limits) (sound : IsSoundProgram program) (accepted : IsAccepted program) where
-  abbrev First : Piece
+  abbrev pub First : Piece
   First = begun (main_ask program limits)
 
-  typed : TypedProgram program
+  pub typed : TypedProgram program
   typed = sound_typed program sound
 
-  abbrev Fine : Piece → Type 0
+  abbrev pub Fine : Piece → Type 0
   Fine = OkayPiece program limits.page input typed (sound_sees program sound) (obeys program accepted)
 
   first_fine : Fine First
@@ -74,7 +74,7 @@ module _ (program : Program) (input : List ℤ) (limits : Limits) (sound : IsSou
     kids = tt;
   }
 
-  reached_fine : (p : Piece) → Reached program limits.page input First p → Fine p
+  pub reached_fine : (p : Piece) → Reached program limits.page input First p → Fine p
   reached_fine _ itself = first_fine
   reached_fine _ (then {p = p} r g) = okay_goes program limits.page input typed (sound_sees program sound) (obeys program accepted) (reached_fine p r) g
   reached_fine _ (its_child {p = p} r n) = okay_child program limits.page input typed (sound_sees program sound) (obeys program accepted) {p = p} (reached_fine p r) n

@@ -4,7 +4,7 @@ use Rattle.std.proofs.Common.{◌≡◌, ◌≢◌, ℕ, zero, suc, ◌+◌, ◌
 use Rattle.std.specs.Prelude.{◌⊎◌, Bool, true, false, ℤ, ⊤}
 use Rattle.cm_syntax.specs.Label.{Step, silent, ticks, prints, spawns, syncs, traps, ends, stuck}
 use Rattle.cm_meaning.specs.End.{End, Done, Trapped, Spent}
-use Rattle.cm_meaning.specs.Piece.{returns, fails, runs_out, Sum, going, trapped, spent, Capped, fits, passes, Decides, all_done, own_trap, own_spent, child_trap, child_spent, add_end, add_number, Ask, Answer, awaited, told, Note, printed, child, Piece, piece, begun, HasNote, here, log_sum, Counts, none, past, counted, AllTold, Fallen, by_trap, by_spent, later, Collects, before, other, taken, by_return, by_tick, by_sync, by_child, Goes, silently, ticking, showing, joining, parting, hearing, returning, GivesBack, this, deeper, Fork, stops, goes}
+use Rattle.cm_meaning.specs.Piece.{returns, fails, runs_out, Sum, going, trapped, spent, Capped, fits, passes, Decides, all_done, own_trap, own_spent, child_trap, child_spent, add_end, add_number, Ask, Answer, awaited, told, Note, printed, child, Piece, piece, begun, HasNote, here, log_sum, Counts, none, past, counted, AllTold, AllDone, Fallen, by_trap, by_spent, later, Collects, before, other, taken, by_return, by_tick, by_sync, by_child, Goes, silently, ticking, showing, joining, parting, hearing, returning, GivesBack, this, deeper, Fork, stops, goes}
 use Rattle.cm_meaning.proofs.ForkLaw as fork
 use Rattle.cm_meaning.proofs.ForkLaw.{Laws, Early, at_stop, at_silent, at_tick, at_print, at_join, at_part, at_return}
 
@@ -86,24 +86,24 @@ module _ (Control Stack Destination : Type 0) (Joins : Stack → Stack → Stack
     joined_told (other {r = told e w} n j) t = joined_told j t
     joined_told (taken s j) t = joined_told j t
 
-    -- all ticks of Done children may be counted; or some child isn't Done
-    abbrev Complete : Log → Sum → Type 0
-    Complete log (going out n) = Counts Control Stack Destination log n
+    -- all children are Done, and their ticks may be counted; or some child isn't Done
+    abbrev pub Complete : Log → Sum → Type 0
+    Complete log (going out n) = Counts Control Stack Destination log n × AllDone Control Stack Destination log
     Complete log _ = Fallen Control Stack Destination log
 
-    complete : (log : Log) → Told log → Complete log (so log)
-    complete [] t = none
+    pub complete : (log : Log) → Told log → Complete log (so log)
+    complete [] t = (none, tt)
     complete (printed v ∷ log) t = by (so log) (complete log t)
       where
         by : (z : Sum) → Complete log z → Complete (printed v ∷ log) (add_number z v)
-        by (going out n) c = past c
+        by (going out n) c = (past c.0, c.1)
         by (trapped out k n) f = later f
         by spent f = later f
     complete (child d at x j q awaited ∷ log) t = absurd t
     complete (child d at x j q (told e w) ∷ log) t = by e (so log) (complete log t)
       where
         by : (e : End) (z : Sum) → Complete log z → Complete (child d at x j q (told e w) ∷ log) (add_end z at e)
-        by (Done p v m) (going out n) c = counted c
+        by (Done p v m) (going out n) c = (counted c.0, (tt, c.1))
         by (Trapped p k m) (going out n) c = by_trap
         by Spent (going out n) c = by_spent
         by e (trapped out k n) f = later f
@@ -224,7 +224,7 @@ module _ (Control Stack Destination : Type 0) (Joins : Stack → Stack → Stack
           let f = subst (λ z. Follows a.call a.lent start own c h log z) is a.follows in
           let j = joins_exist (depth c) (base a.call) (floor c) log h f.0 f.1 f.3 f.4 in
           let same_sofar : so j.0 ≡ going out n = fork.joined_sofar Control Stack Destination Joins TakesOut settle depth step inside laws j.2 ∙ is in
-          let all : Counts Control Stack Destination j.0 n = subst (λ z. Complete j.0 z) same_sofar (complete j.0 (joined_told j.2 a.told_all)) in
+          let all : Counts Control Stack Destination j.0 n = (subst (λ z. Complete j.0 z) same_sofar (complete j.0 (joined_told j.2 a.told_all))).0 in
           elim (at_most (own + n) start) [
             | inl fit ↦
                 let r = again start own t j.1 j.0
@@ -241,7 +241,7 @@ module _ (Control Stack Destination : Type 0) (Joins : Stack → Stack → Stack
 
       by_sofar : (left bound start own : ℕ) (c : Control) (h : Stack) (log : Log) → At start own c h log → weight c < suc bound → ((l : ℕ) → left ≡ suc l → (b : ℕ) → Goal l b) → Goal left bound
           → (z : Sum) → so log ≡ z → Complete log z → Left start own left z → Finds start own c h log
-      by_sofar left bound start own c h log a light fewer again (going out n) is k l = by_going left bound start own c h log out n a is k l light fewer again (step c h) refl (lighter c h)
+      by_sofar left bound start own c h log a light fewer again (going out n) is k l = by_going left bound start own c h log out n a is k.0 l light fewer again (step c h) refl (lighter c h)
       by_sofar left bound start own c h log a light fewer again (trapped out t n) is k l = ends_early start own c h log (subst (λ z. Falls z) (sym is) tt) k
       by_sofar left bound start own c h log a light fewer again spent is k l = ends_early start own c h log (subst (λ z. Falls z) (sym is) tt) k
 

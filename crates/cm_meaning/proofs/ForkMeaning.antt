@@ -15,7 +15,8 @@ use Rattle.cm_meaning.proofs.BesideLaw.{beside}
 use Rattle.cm_meaning.proofs.InsideLaw.{within}
 use Rattle.cm_meaning.proofs.EndLaw.{one_end}
 use Rattle.cm_meaning.proofs.RunLaw.{first_settled}
-use Rattle.cm_meaning.proofs.SettledLaw.{floor, floor_of, Moves, Keeps, IsSpawned, Met, good_law}
+use Rattle.cm_meaning.specs.Loan.{floor, floor_of}
+use Rattle.cm_meaning.proofs.SettledLaw.{Moves, Keeps, IsSpawned, Met, good_law}
 use Rattle.cm_meaning.proofs.AboveLaw.{IsAbove, IsLevel}
 use Rattle.cm_meaning.proofs.ReturnLaw.{above_goes, returns_to}
 use Rattle.cm_meaning.proofs.ForkLaw as fork
@@ -39,7 +40,7 @@ module _ (program : Program) (page : ℕ) (input : List ℤ) where
   beside_law b (silent t g) y f = f
   beside_law b (ticks t g) y f = f
   beside_law b (prints v t g) y f = f
-  beside_law b (spawns call lent x t g) y f = f
+  beside_law b (spawns call lent x t g) y f = (f.0, f.1, f.2)
   beside_law b (syncs t) y f = f
   beside_law b (traps k) y f = f
   beside_law b (ends v) y f = f

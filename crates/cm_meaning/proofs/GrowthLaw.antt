@@ -14,7 +14,7 @@ use Rattle.cm_syntax.specs.declared.stmt.Program.{Program}
 use Rattle.cm_syntax.specs.Stack.{Reference, Stack, Argument, word, slice}
 use Rattle.cm_syntax.specs.Rest.{Item, evaluate, right, apply, prefix, both, either, truth, element, read, arguments, pass, take_back, discard, deliver, perform, sequence, body, declare, assign, update, locate, store, branch, turn, test, part, tick, show, exit, fall, join, end}
 use Rattle.cm_meaning.specs.Typing.{IsSetRow, TypedExpression, TypedStatement, set_by_items, set_behind}
-use Rattle.cm_meaning.specs.TypedState.{IsPresent, IsSet, AreSet, AtHand, nothing, value, back, at_join, IsReference, FitParameters, HasNoStore, row_length, reference_length, TypedOther, TypedLoop, FitsCall, FitsPass, Inner, Outer, IsThere, FitsExtent, extent_length}
+use Rattle.cm_meaning.specs.TypedState.{IsPresent, AreSet, AtHand, nothing, value, back, at_join, IsReference, FitParameters, HasNoStore, row_length, reference_length, TypedOther, TypedLoop, FitsCall, FitsPass, Inner, Outer, IsThere, FitsExtent, extent_length}
 use Rattle.cm_meaning.proofs.WeakeningLaw.{IsAmong, among_first, among_items, among_behind, more_scalar, more_row, more_expression, more_arguments, more_optional, more_items, more_statement, more_sequence, more_body}
 
 -- what is set in the frames before this depth is set in the other stack too

@@ -17,6 +17,7 @@ use Rattle.cm_meaning.specs.Piece.{awaited, printed, child, HasNote, here, Answe
 use Rattle.cm_meaning.specs.Meaning.{Ask, Piece, Fork, Goes, begun, serial_step}
 use Rattle.cm_meaning.specs.Activation.{base, end_count, IsSettled}
 use Rattle.cm_meaning.specs.Law.{IsBeside, IsInside, arrival}
+use Rattle.cm_meaning.specs.Loan.{floor, IsLoan, Loans}
 use Rattle.cm_meaning.specs.Typing.{TypedProgram}
 use Rattle.cm_meaning.specs.TypedState.{TypedState, KeepsTyped}
 use Rattle.cm_meaning.specs.Visible.{SeesProgram}
@@ -24,7 +25,7 @@ use Rattle.cm_meaning.proofs.LendingLaw.{Obeys}
 use Rattle.cm_meaning.proofs.SumLaw.{comm, assoc, same as same_sum, alone_, under_more, under_sum}
 use Rattle.cm_meaning.proofs.BesideLaw.{beside}
 use Rattle.cm_meaning.proofs.InsideLaw.{within}
-use Rattle.cm_meaning.proofs.SettledLaw.{floor, Moves, Keeps, IsSpawned, good_law}
+use Rattle.cm_meaning.proofs.SettledLaw.{Moves, Keeps, IsSpawned, good_law}
 use Rattle.cm_meaning.proofs.SafetyLaw.{typed_step}
 use Rattle.cm_meaning.proofs.TypedFramesLaw.{IsPlain, Wider, state, running, frames_of, cons_empty}
 use Rattle.cm_meaning.proofs.WiderLaw.{low_base}
@@ -32,7 +33,7 @@ use Rattle.cm_meaning.proofs.GuardLaw.{Access, reads, writes, Serves, PassesAt}
 use Rattle.cm_meaning.proofs.GuardStepLaw.{stand_same, passes_less, guards_joined}
 use Rattle.cm_meaning.proofs.GuardItemLaw.{Agrees, At, Outside, Behind, Synced, Next, Runs, frames_less}
 use Rattle.cm_meaning.proofs.GuardHandLaw.{Larger, ok_step}
-use Rattle.cm_meaning.proofs.LoanLaw.{Log, LentTo, Away, gone_lent, away_less, IsLoan, Loans, loans_under, loans_bare, loans_more, loans_lent, lent_loans, lent_more, lent_high, Meets, Learns, joined_loans, joined_references, joined_under, joined_lent, joined_held, joined_own, typed_wider, Returned, returned_held, put_back, given_back, Back, back_loans, back_lent}
+use Rattle.cm_meaning.proofs.LoanLaw.{Log, LentTo, Away, gone_lent, away_less, loans_under, loans_bare, loans_more, loans_lent, lent_loans, lent_more, lent_high, Meets, Learns, joined_loans, joined_references, joined_under, joined_lent, joined_held, joined_own, typed_wider, Returned, returned_held, put_back, given_back, Back, back_loans, back_lent}
 use Rattle.cm_meaning.proofs.ForkMeaning.{floor_low, synced}
 
 -- where a piece stands in the whole: it is main's, or behind its call the caller goes on
@@ -52,7 +53,7 @@ put_is : (a : Around) (calls : List ℕ) (account : ℕ) (hand : Hand) (rest : L
 put_is alone calls account hand rest = refl
 put_is (called_by x t) calls account hand rest = refl
 
-put_calls : (a : Around) (c : Control) → (put a c).calls ≡ c.calls
+pub put_calls : (a : Around) (c : Control) → (put a c).calls ≡ c.calls
 put_calls alone c = refl
 put_calls (called_by x t) c = refl
 

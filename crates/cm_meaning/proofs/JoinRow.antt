@@ -2,11 +2,11 @@
 use Rattle.std.proofs.Common.{◌≡◌, ℕ, zero, suc, ◌+◌, ◌≤◌, List, [], ◌∷◌, Option, None, Some, refl, sym, ap, ◌∙◌, subst, arith, inl, inr}
 use Rattle.std.proofs.lemmas.Bool.{ltb-true}
 use Rattle.std.proofs.lemmas.Bool.Decides.{eqb_tells}
-use Rattle.std.specs.Prelude.{◌-◌, Bool, true, false, ◌==◌, nat_lt, if◌then◌else◌, ℤ}
+use Rattle.std.specs.Prelude.{◌-◌, Bool, true, false, ◌==◌, nat_lt, if◌then◌else◌, ℤ, pos}
 use Rattle.cm_syntax.specs.declared.stmt.Program.{Program}
 use Rattle.cm_syntax.specs.Label.{silent, ticks, prints, spawns, syncs, traps, ends, stuck}
 use Rattle.cm_syntax.specs.Cell.{Cell, CellSum, may_write, settle_cell}
-use Rattle.cm_syntax.specs.Stack.{Stack, Scalar, Destination, Argument, StackSum, SharesBack, IsUnder, settle, push_frame, pop_frame}
+use Rattle.cm_syntax.specs.Stack.{Stack, Scalar, Destination, Argument, word, empty_stack, write_word, lent_stack, StackSum, SharesBack, IsUnder, settle, push_frame, pop_frame}
 use Rattle.cm_syntax.specs.Rest.{Control}
 use Rattle.cm_syntax.specs.Step.{Move, step, depth}
 use Rattle.cm_meaning.specs.End.{End, Done}
@@ -54,6 +54,23 @@ settled_sum x v a b c o held = record { words = λ d s i. word_ d s i; reference
         ]
       ]
     ]
+
+-- of `cilk int main() { int x; x = spawn f(4); ..`: the stack before the spawn, and the destination
+abbrev pub before : Stack
+before = write_word (push_frame empty_stack 0 []) 0 0 0 (pos 0)
+
+abbrev pub x : Scalar
+x = record { depth = 0; slot = 0 }
+
+-- what is lent there is below the child's frame
+pub low : IsUnder 1 (lent_stack before (Some x) (word (pos 4) ∷ []))
+low = record {
+  words = λ d s i l. elim (eqb_tells d 0) [ inl one ↦ absurd (none_ d l one.1) | inr ne ↦ let p : (d == 0) ≡ false = ne.0 in rw p refl ];
+  references = λ d s l. refl;
+}
+  where
+    none_ : (d : ℕ) → 1 ≤ d → d ≡ 0 → ⊥
+    none_ d l e = omega (arith, l, e)
 
 module _ (program : Program) (page : ℕ) (input : List ℤ) where
   abbrev Forks : Piece → End → Stack → Type 0

@@ -8,7 +8,6 @@ use Rattle.std.proofs.lemmas.List.{length-map, length-reverse, reverse-reverse, 
 use Rattle.std.proofs.lemmas.Bool.{cases_lt, cases_eq, cases_Bool, eqb-true, eq-eqb, ltb-true, lt-ltb}
 use Rattle.std.proofs.lemmas.Bool.Decides.{eqb_tells}
 use Rattle.cm_syntax.specs.declared.stmt.Slot.{Slot}
-use Rattle.cm_syntax.specs.declared.stmt.Slot.TheVariants as slot
 use Rattle.cm_syntax.specs.declared.stmt.Extent.{Extent}
 use Rattle.cm_syntax.specs.declared.stmt.Extent.TheVariants as extent
 use Rattle.cm_syntax.specs.Extent.{extent_of, extent_at}

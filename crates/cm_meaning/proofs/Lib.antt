@@ -10,9 +10,12 @@ pub mod EndLaw
 pub mod SettledLaw
 pub mod RunLaw
 pub mod PieceRow
+pub mod ReachedRow
 pub mod JoinRow
 pub mod PrintRow
 pub mod ShareRow
+pub mod ShiftLaw
+pub mod AskLaw
 pub mod AccountLaw
 pub mod MeasureRow
 pub mod AboveLaw
@@ -31,6 +34,9 @@ pub mod GuardItemLaw
 pub mod GuardHandLaw
 pub mod LoanLaw
 pub mod GuardPieceLaw
+pub mod LeadLaw
+pub mod SomeEndLaw
+pub mod ChildLaw
 pub mod CheckedLaw
 pub mod OutputLaw
 pub mod LinesLaw
@@ -38,6 +44,9 @@ pub mod FormedLaw
 pub mod TypedExpressionLaw
 pub mod TypedStatementLaw
 pub mod TypingLaw
+pub mod MarkSourceLaw
+pub mod MarkStepLaw
+pub mod MarkLaw
 pub mod WeakeningLaw
 pub mod GrowthLaw
 pub mod TypedFramesLaw

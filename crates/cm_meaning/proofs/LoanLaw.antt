@@ -8,11 +8,12 @@ use Rattle.cm_syntax.specs.Stack.{Stack, Destination, empty_stack, settle, Stack
 use Rattle.cm_syntax.specs.Rest.{Item, end, Hand, idle, holds, returned, entering, framing, Control}
 use Rattle.cm_syntax.specs.Step.{Move, step, depth, inside}
 use Rattle.cm_syntax.proofs.CellLaw.{cell_comm, cell_alone, cell_nothing, held_whole, value_held, not_held, whole_left, held_left, held_parts, settle_or}
-use Rattle.cm_meaning.specs.End.{Done, Trapped, Spent}
+use Rattle.cm_meaning.specs.End.{Done}
 use Rattle.cm_meaning.specs.Elision.{serial}
-use Rattle.cm_meaning.specs.Piece.{Answer, awaited, told, printed, child, Collects, none, past, before, other, taken, Hears, GivesBack, this, deeper}
+use Rattle.cm_meaning.specs.Piece.{printed, child, Collects, none, past, before, other, taken, Hears, GivesBack, this, deeper}
 use Rattle.cm_meaning.specs.Meaning.{Ask, Note, Fork, begun, Comes, serial_step}
 use Rattle.cm_meaning.specs.Activation.{base, IsSettled}
+use Rattle.cm_meaning.specs.Loan.{loan, Loans}
 use Rattle.cm_meaning.specs.TypedState.{IsPresent, back, at_hand, at_join, Outer, Running, Ready, TypedState}
 use Rattle.cm_meaning.proofs.SumLaw.{comm, assoc, same, alone_, under_nothing, under_more, under_sum, settle_under, back_sum, back_settle, back_under}
 use Rattle.cm_meaning.proofs.SettledLaw.{Moves, good_law}
@@ -27,13 +28,6 @@ abbrev pub Log : Type 0
 Log = List Note
 
 -- ---- loans
-
--- what a child holds of the words of its piece: what it was lent, and where it is Done what it gives back
-abbrev pub loan : Destination → Ask → Answer Control Stack Destination → Stack
-loan x q awaited = q.lent
-loan x q (told (Done out v m) w) = settle x v w
-loan x q (told (Trapped out k m) w) = q.lent
-loan x q (told Spent w) = q.lent
 
 -- unjoined children of calls before this depth hold the word
 abbrev pub LentTo : Log → (n e t j : ℕ) → Type 0
@@ -58,20 +52,6 @@ pub away_less : (outside h g : Stack) (log later : Log) (n m e t j : ℕ) → (L
     → (Away outside g later writes m e t j → is_held (h.words e t j) ≡ true → is_held (g.words e t j) ≡ true) → (access : Access) → Away outside g later access m e t j → Away outside h log access n e t j
 away_less outside h g log later n m e t j f k writes a = elim a [ inl p ↦ inl p | inr p ↦ inr (f p) ]
 away_less outside h g log later n m e t j f k reads a = ((elim a.0 [ inl p ↦ inl p | inr p ↦ inr (f p) ]), λ i. a.1 (k (gone_lent outside g later reads m e t j a) i))
-
--- of a child of the call at a depth
-pub record IsLoan (low high d : ℕ) (s : Stack) : Type 0 where
-  pub from : low ≤ d
-  pub to : d < high
-  pub under : IsUnder (suc d) s
-  pub bare : (e t : ℕ) → s.references e t ≡ absent
-
--- what all unjoined children hold
-abbrev pub Loans : (low high : ℕ) → Log → Stack → Type 0
-Loans b n [] o = o ≡ empty_stack
-Loans b n (printed v ∷ log) o = Loans b n log o
-Loans b n (child d at x true q r ∷ log) o = Loans b n log o
-Loans b n (child d at x false q r ∷ log) o = (l : Stack) × Loans b n log l × StackSum (loan x q r) l o × IsLoan b n d (loan x q r)
 
 pub loans_under : (b n : ℕ) (log : Log) (o : Stack) → Loans b n log o → IsUnder n o
 loans_under b n [] o e = subst (λ z. IsUnder n z) (sym e) (under_nothing n)

@@ -38,7 +38,7 @@ capped start n e = by (nat_le n start) refl
     by true l = fits (leb-true n start l)
     by false l = passes (leb-false n start l)
 
-decides : (start own : ℕ) (z : Sum) (o : Own) → Decides start own z o (end_of start own z o)
+pub decides : (start own : ℕ) (z : Sum) (o : Own) → Decides start own z o (end_of start own z o)
 decides start own (going out n) (returns v) = all_done (capped start (own + n) (Done out v (own + n)))
 decides start own (going out n) (fails k) = own_trap (capped start (own + n) (Trapped out k (own + n)))
 decides start own (going out n) runs_out = own_spent
@@ -67,13 +67,13 @@ counts_joined (child d o x true q awaited ∷ log) e = cc e
 counts_joined (child d o x false q r ∷ log) e = skipped (counts_joined log e)
 
 -- some child has fallen
-abbrev has_fallen : Log → Bool
+abbrev pub has_fallen : Log → Bool
 has_fallen [] = false
 has_fallen (child d o x j q (told (Trapped out k m) w) ∷ log) = true
 has_fallen (child d o x j q (told Spent w) ∷ log) = true
 has_fallen (n ∷ log) = has_fallen log
 
-fallen : (log : Log) → has_fallen log ≡ true → Fallen Control Stack Destination log
+pub fallen : (log : Log) → has_fallen log ≡ true → Fallen Control Stack Destination log
 fallen [] e = cc e
 fallen (child d o x j q (told (Trapped out k m) w) ∷ log) e = by_trap
 fallen (child d o x j q (told Spent w) ∷ log) e = by_spent

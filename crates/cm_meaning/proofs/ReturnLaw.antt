@@ -131,7 +131,7 @@ module _ (program : Program) (page : ℕ) (input : List ℤ) (x : Destination) (
   above_at : (c : Control) (h : Stack) (y : Move) → goes c h ≡ y → IsAbove program page input x z c h → Keeps (IsAbove program page input x z) y
   above_at c h y e a = subst (λ q. Keeps (IsAbove program page input x z) q) e (above_goes program page input x z c h a)
 
-  above_run : {c t : Control} {h g : Stack} {out : List ℤ} {n : ℕ} → Runs c h out n t g → IsAbove program page input x z c h → IsAbove program page input x z t g
+  pub above_run : {c t : Control} {h g : Stack} {out : List ℤ} {n : ℕ} → Runs c h out n t g → IsAbove program page input x z c h → IsAbove program page input x z t g
   above_run here a = a
   above_run {c = c} {h = h} (quiet e r) a = above_run r (above_at c h _ e a)
   above_run {c = c} {h = h} (one_tick e r) a = above_run r (above_at c h _ e a)
@@ -143,7 +143,7 @@ module _ (program : Program) (page : ℕ) (input : List ℤ) (x : Destination) (
   one_more (one_tick e r) s = one_tick e (one_more r s)
   one_more (one_number e r) s = one_number e (one_more r s)
 
-  ended_by : {v : Option ℤ} (h : Stack) (y : Move) → serial Control Stack Destination (step program page input) inside h y ≡ ends v → y ≡ ends v
+  pub ended_by : {v : Option ℤ} (h : Stack) (y : Move) → serial Control Stack Destination (step program page input) inside h y ≡ ends v → y ≡ ends v
   ended_by h (ends w) e = e
   ended_by h (silent t g) e = cc e
   ended_by h (ticks t g) e = cc e

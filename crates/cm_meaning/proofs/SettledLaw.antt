@@ -14,18 +14,11 @@ use Rattle.cm_syntax.specs.Step.{Move, top, depth, inside, rest_at_join, hand_va
 use Rattle.cm_meaning.specs.Elision.{serial}
 use Rattle.cm_meaning.specs.Activation.{IsInner, IsOuter, FitsHand, end_count, base, IsSettled}
 use Rattle.cm_meaning.specs.Law.{HoldsDestination}
+use Rattle.cm_meaning.specs.Loan.{floor_of, floor}
 use Rattle.cm_meaning.proofs.SumLaw.{part_sum, lent_under, kept_under}
 use Rattle.cm_meaning.proofs.Walk.{IsPlainRow, Change, nothing, word, zeros, parts, changed, MayChange, MayTake, IsFree, IsFreeReference, MoveRules}
 use Rattle.cm_meaning.proofs.TypedFramesLaw.{IsPlain}
 use Rattle.cm_meaning.proofs.WalkLaw.{none_below, move_law}
-
--- the number of frames without the one whose end is the next item
-abbrev pub floor_of : ℕ → List Item → ℕ
-floor_of n (end ∷ k) = n - 1
-floor_of n k = n
-
-abbrev pub floor : Control → ℕ
-floor c = floor_of (length c.calls) c.rest
 
 -- how frames come and go
 abbrev pub Moves : Control → Stack → Move → Type 0

@@ -13,13 +13,24 @@ use Rattle.cm_meaning.specs.End.{Done}
 use Rattle.cm_meaning.specs.Meaning.{Ask, Note}
 use Rattle.cm_meaning.specs.Piece.{child, told, HasNote}
 
+-- What a spawn of the whole lends and keeps is together what the spawn alone lends, what it keeps and the words beside;
+-- and a word that may be written goes where it goes alone.
+pub record PartsBeside (words lent kept more_lent more_kept : Stack) : Type 0 where
+  pub before : Stack
+  pub whole : Stack
+  pub alone : StackSum lent kept before
+  pub beside : StackSum before words whole
+  pub parted : StackSum more_lent more_kept whole
+  pub same_lent : (d s i : ℕ) → may_write (lent.words d s i) ≡ true → more_lent.words d s i ≡ lent.words d s i
+  pub same_kept : (d s i : ℕ) → may_write (kept.words d s i) ≡ true → more_kept.words d s i ≡ kept.words d s i
+
 -- A step is another one that is done beside some words, which it leaves as they are. They may not be of a frame that
 -- the step begins or ends.
 abbrev pub IsBeside : (words : Stack) → (alone beside : Move) → Type 0
 IsBeside b (silent c h) y = IsUnder (frame_count c) b → (g : Stack) × (y ≡ silent c g) × StackSum h b g
 IsBeside b (ticks c h) y = IsUnder (frame_count c) b → (g : Stack) × (y ≡ ticks c g) × StackSum h b g
 IsBeside b (prints v c h) y = IsUnder (frame_count c) b → (g : Stack) × (y ≡ prints v c g) × StackSum h b g
-IsBeside b (spawns call lent x c h) y = (l : Stack) × (g : Stack) × (y ≡ spawns call l x c g)
+IsBeside b (spawns call lent x c h) y = (l : Stack) × (g : Stack) × (y ≡ spawns call l x c g) × PartsBeside b lent h l g
 IsBeside b (syncs c) y = y ≡ syncs c
 IsBeside b (traps k) y = y ≡ traps k
 IsBeside b (ends v) y = y ≡ ends v

@@ -8,6 +8,10 @@ pub mod Activation
 pub mod Law
 pub mod Row
 pub mod ShareRow
+pub mod Shift
+pub mod Leads
+pub mod Loan
+pub mod Mark
 pub mod Typing
 pub mod TypedState
 pub mod Visible

@@ -1,5 +1,5 @@
 -- What a program means: the end of its serial elision, and the ends that fork and join allow.
-use Rattle.std.specs.Prelude.{◌≡◌, ℕ, ◌*◌, ℤ, List}
+use Rattle.std.specs.Prelude.{◌≡◌, ℕ, ◌*◌, Bool, ℤ, List}
 use Rattle.cm_syntax.specs.declared.stmt.Program.{Program}
 use Rattle.cm_syntax.specs.Label.{stuck}
 use Rattle.cm_syntax.specs.Cell.{ComesBack}
@@ -100,9 +100,16 @@ pub record HoldSameCells (a b : Stack) : Type 0 where
   pub words : (d s i : ℕ) → ComesBack (a.words d s i) (b.words d s i)
   pub references : (d s : ℕ) → ComesBack (a.references d s) (b.references d s)
 
--- An end with words answers an ask of a program's run: the ask is one of a reached child, the rules allow it the end
--- and these words, and the words that come back are those that were lent, whatever is in them.
+-- some child of the log has this ask
+abbrev pub Asks : List Note → Ask → Type 0
+Asks log ask = (depth own : ℕ) × (x : Destination) × (joined : Bool) × (r : pieces.Answer Control Stack Destination)
+    × pieces.HasNote Control Stack Destination log (pieces.child depth own x joined ask r)
+
+-- An end with words answers an ask of a program's run: the ask is that of a child of a reached piece, the rules allow it
+-- the end and these words, and the words that come back are those that were lent, whatever is in them.
 pub record Answers (program : Program) (input : List ℤ) (limits : Limits) (ask : Ask) (e : End) (w : Stack) : Type 0 where
-  pub reached : Reached program limits.page input (begun (main_ask program limits)) (begun ask)
+  pub parent : Piece
+  pub reached : Reached program limits.page input (begun (main_ask program limits)) parent
+  pub asked : Asks parent.log ask
   pub allowed : Fork program limits.page input (begun ask) e w
   pub cells : HoldSameCells ask.lent w

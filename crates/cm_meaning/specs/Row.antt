@@ -195,6 +195,12 @@ two_traps = program_of (int_function true [] []
     ∷ int_function false (slot.Scalar ∷ []) [] (declare_scalar 0 ∷ count_up 0 3 ∷ give_back division_by_zero ∷ [])
     ∷ int_function false [] [] (give_back (InputAt (number 0)) ∷ []) ∷ [])
 
+-- `cilk int main() { spawn f(); spawn f(); return 0; } int f() { return 0; }`
+abbrev pub spawns_twice : Program
+spawns_twice = program_of (int_function true [] []
+    (statement.Spawn 0 None (call_of 1 []) ∷ statement.Spawn 0 None (call_of 1 []) ∷ give_back (number 0) ∷ [])
+    ∷ int_function false [] [] (give_back (number 0) ∷ []) ∷ [])
+
 -- `cilk int main() { int x; x = spawn f(4); sync; return x; } int f(int n) { return n; }`
 abbrev pub spawns_and_syncs : Program
 spawns_and_syncs = program_of (int_function true (slot.Scalar ∷ []) []

@@ -14,7 +14,7 @@ ghost use Rattle.cm_meaning.specs.Meaning.{Ask, Fork, ForkEnd, SerialEnd, begun,
 ghost use Rattle.cm_meaning.specs.Measure.{account_of};
 ghost use Rattle.cm_meaning.specs.Typing.{TypedProgram};
 ghost use Rattle.cm_meaning.specs.TypedState.{TypedState, KeepsTyped};
-ghost use Rattle.cm_meaning.specs.Law.{HoldsDestination, IsBeside, writes_next, HasNeeded, IsInside, arrival, LowersWeight, PartsStack, KeepsSettled};
+ghost use Rattle.cm_meaning.specs.Law.{HoldsDestination, PartsBeside, IsBeside, writes_next, HasNeeded, IsInside, arrival, LowersWeight, PartsStack, KeepsSettled};
 
 /// A step that takes no tick leads to less weight.
 pub fn steps_lower_weight()
@@ -24,7 +24,7 @@ pub fn steps_lower_weight()
 
 /// Beside: a step on a stack that is joined to words which it doesn't hold, of frames below, is the same step with
 /// those words left as they are. The other way, a step that isn't stuck on the whole isn't stuck on a part that has
-/// what the step needs.
+/// what the step needs. What a spawn lends and keeps beside the words is together the whole.
 pub fn steps_beside_words()
     ensures same { (program : Program) (page : ℕ) (input : List ℤ) (c : Control) (h words whole : Stack)
         → StackSum h words whole → IsUnder (frame_count c) words
@@ -32,6 +32,8 @@ pub fn steps_beside_words()
     ensures needed { (program : Program) (page : ℕ) (input : List ℤ) (c : Control) (h words whole : Stack)
         → StackSum h words whole → HasNeeded (writes_next c.rest) (step program page input c) h whole
         → step program page input c whole ≢ stuck → step program page input c h ≢ stuck }
+    ensures parts { (words lent kept more_lent more_kept h whole : Stack) → PartsBeside words lent kept more_lent more_kept
+        → StackSum lent kept h → StackSum h words whole → StackSum more_lent more_kept whole }
 {}
 
 /// Inside: a step of the elision is the same step within a caller's rest, and where the call is at its end its value is

@@ -5,6 +5,7 @@
 //! The code of a program is not looked at here, and no machine.
 #![tactic(auto)]
 
+mod activation_law;
 mod call;
 mod elision;
 mod ended;
@@ -14,13 +15,18 @@ mod expression;
 mod fork_law;
 mod frames;
 mod law;
+mod lead_law;
+mod loan_law;
+mod mark_law;
 mod operator;
 mod output;
+mod piece_row;
 mod reference;
 mod row;
 mod statement;
 mod work;
 
+pub use activation_law::{accounts_of_pieces, steps_shift_calls};
 pub use elision::{elide, measure};
 pub use ended::{Ended, Limits, Measure, Trap};
 pub use ended_text::text;
@@ -34,7 +40,14 @@ pub use law::{
     spawns_part_stacks, states_stay_settled, steps_beside_words, steps_inside_callers,
     steps_lower_weight, typed_programs_go_on,
 };
+pub use lead_law::{answers_are_heard, done_children_join, pieces_find_ends, pieces_lead_on};
+pub use loan_law::{frames_go_without_children, loans_make_one_stack};
+pub use mark_law::{marked_functions_spawn, marks_allow_rests};
 pub use output::Output;
+pub use piece_row::{
+    answer_of_child, asks_with_or_without_ticks, decides_or_goes_on, later_child_heard_first,
+    traps_beside_awaited,
+};
 pub use row::{
     calls_to_the_account, cilk_calls_take_pages, early_stops, first_child_decides,
     index_before_value, joins_count_once, left_operand_first, loop_ticks, measures_of_runs,

@@ -51,10 +51,12 @@ pub fn operators_at_corners()
     ensures flip { unary_value op.Flip (pos 2147483647) ≡ Some (row.minus 2147483648) }
 {}
 
-/// `2 + 3 * 4` is 14, after main's tick.
+/// `2 + 3 * 4` is 14, after main's tick; `2 - 3 * 4` is -10, and `1 - 2 - 3` is -4.
 pub fn sums_and_products()
     ensures value { SerialEnd row.sum_and_product [] (row.with_ticks 1) (Done [] (Some (pos 14)) 1) }
     ensures spent { SerialEnd row.sum_and_product [] (row.with_ticks 0) Spent }
+    ensures difference { SerialEnd (row.returns_value (row.joined op.Sub (row.number 2) (row.joined op.Mul (row.number 3) (row.number 4)))) [] (row.with_ticks 1) (Done [] (Some (row.minus 10)) 1) }
+    ensures from_left { SerialEnd (row.returns_value (row.joined op.Sub (row.joined op.Sub (row.number 1) (row.number 2)) (row.number 3))) [] (row.with_ticks 1) (Done [] (Some (row.minus 4)) 1) }
 {}
 
 /// A `for` with three turns takes a tick for each, and none where its condition fails.

@@ -1,32 +1,15 @@
-use Rattle.std.specs.Prelude.{pos, Some, [], ◌∷◌, ℕ, ◌≤◌, ◌≡◌, false, ◌==◌}
+use Rattle.std.specs.Prelude.{pos, Some, [], ◌∷◌}
 use Rattle.std.specs.Int.{int_wrap}
-use Rattle.std.proofs.Common.{refl, arith, inl, inr}
-use Rattle.std.proofs.lemmas.Bool.Decides.{eqb_tells}
-use Rattle.cm_syntax.specs.Stack.{Stack, Scalar, word, IsUnder, lent_stack, empty_stack, push_frame, write_word}
+use Rattle.std.proofs.Common.{refl, arith}
+use Rattle.cm_syntax.specs.Stack.{word, empty_stack}
 use Rattle.cm_meaning.specs.End.{Done, Spent}
 use Rattle.cm_meaning.specs.Meaning.{first_control}
 use Rattle.cm_meaning.specs.Row as row
 use Rattle.cm_meaning.proofs.SumLaw.{part_sum}
 use Rattle.cm_meaning.proofs.RowLaw.{done, spent}
 use Rattle.cm_meaning.proofs.ForkMeaning.{only_end}
-use Rattle.cm_meaning.proofs.JoinRow.{joined_once}
+use Rattle.cm_meaning.proofs.JoinRow.{before, x, low, joined_once}
 use Rattle.cm_meaning.proofs.row.joins_count_once.Goals as goal
-
--- main's stack before the spawn, and the destination
-abbrev before : Stack
-before = write_word (push_frame empty_stack 0 []) 0 0 0 (pos 0)
-
-abbrev x : Scalar
-x = record { depth = 0; slot = 0 }
-
-low : IsUnder 1 (lent_stack before (Some x) (word (pos 4) ∷ []))
-low = record {
-  words = λ d s i l. elim (eqb_tells d 0) [ inl one ↦ absurd (none_ d l one.1) | inr ne ↦ let p : (d == 0) ≡ false = ne.0 in rw p refl ];
-  references = λ d s l. refl;
-}
-  where
-    none_ : (d : ℕ) → 1 ≤ d → d ≡ 0 → ⊥
-    none_ d l e = omega (arith, l, e)
 
 pub returns-clause-enough : goal.returns-clause-enough
 unfolding int_wrap Rattle.cm_syntax.specs.declared.expr.Arg.TheBlock.shape-the_row-Expr-0 Rattle.cm_syntax.specs.declared.expr.Arg.TheBlock.hidden-the_row-Expr-0 Rattle.cm_syntax.specs.declared.expr.Arg.TheBlock.shape-the_row-Arg-1 Rattle.cm_syntax.specs.declared.expr.Arg.TheBlock.hidden-the_row-Arg-1 Rattle.cm_syntax.specs.declared.stmt.Stmt.TheBlock.shape-the_row-Stmt-0 Rattle.cm_syntax.specs.declared.stmt.Stmt.TheBlock.hidden-the_row-Stmt-0 Rattle.cm_syntax.specs.declared.stmt.Stmt.TheBlock.shape-the_row-Stmt-1 Rattle.cm_syntax.specs.declared.stmt.Stmt.TheBlock.hidden-the_row-Stmt-1 denote.Hole.Carrier.hidden
