@@ -4,6 +4,7 @@ mod big;
 mod build;
 mod output;
 mod reader;
+mod strand;
 
 use crate::cut::one_source;
 use crate::still::still;

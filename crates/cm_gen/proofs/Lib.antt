@@ -6,3 +6,5 @@ pub mod patterns
 pub mod states
 pub mod items
 pub mod images
+pub mod pieces
+pub mod ahead

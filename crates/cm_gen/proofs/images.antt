@@ -3,4 +3,9 @@ pub mod AddressLaw
 pub mod ImageLaw
 pub mod CompiledLaw
 pub mod MakingLaw
+pub mod BeginLaw
 pub mod MomentLaw
+pub mod MoreWordsLaw
+pub mod RegisterLaw
+pub mod JoinedLaw
+pub mod PassingLaw

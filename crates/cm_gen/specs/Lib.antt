@@ -12,6 +12,10 @@ pub mod Fits
 pub mod Build
 pub mod Standing
 pub mod FrameWord
+pub mod Returns
 pub mod StandsFor
+pub mod Moment
 pub mod Formed
 pub mod Literal
+pub mod Spawn
+pub mod Ahead

@@ -33,7 +33,8 @@ use Rattle.cm_gen.specs.declared.form.Form.TheVariants.{Serial}
 use Rattle.cm_gen.specs.Standing.{form_of, form_here}
 use Rattle.cm_gen.specs.FrameWord.{bits, words_in, bytes_of, taken}
 use Rattle.cm_gen.specs.Formed.{Runs, Formed, KeepsFormed}
-use Rattle.cm_gen.specs.StandsFor.{Spot, ExactAt, Exact, Serves, Reaches, stands, hears, opens, Arrives, ArrivesSpawn, ArrivesSync, LeadsFrom, passed}
+use Rattle.cm_gen.specs.StandsFor.{Spot, ExactAt, Exact, Serves, Reaches, Turns, stands, turns, hears, opens, Arrives, ArrivesSpawn, ArrivesSync, LeadsFrom, passed}
+use Rattle.cm_gen.proofs.patterns.StepLaw.{comes_by_steps}
 use Rattle.cm_gen.proofs.frames.FrameWordLaw.{may_stand_above, may_stand_low, low_end_below}
 use Rattle.cm_serial.specs.declared.service.Stop.TheVariants as stop
 use Rattle.cm_serial.specs.declared.service.Answer.{Answer}
@@ -150,18 +151,26 @@ module _ (program : Program) (limits : Limits) (input : List ℤ) (code : Code) 
         let next : m.counter + 4 ≡ follow m.counter = omega (arith, small) in
         ap (λ counter. record { registers = m.registers; counter = counter; words = m.words }) next
 
+    -- the last instruction of a call or of a return
+    turned : {c : Control} {h : Stack} {left : ℕ} {m : Machine} (old : Spot) (printed : List ℤ) → HasStack (stack_bytes limits) m.words → Turns program Serial limits.page input code old left c h m
+        → (e : End) → After left c h printed e → Finishes m printed e
+    turned {m = m} old printed stack x e after =
+        let later = after x.next (λ a whole low high. kept_step code m x.next x.step a (stack a whole low high)) (x.spot, x.stands) in
+        (suc later.0, run.step x.step later.1)
+
     arrive : (move : Move) (old : Spot) (left : ℕ) (calls : List ℕ) (h : Stack) (m : Machine) (printed : List ℤ) → KeepsFormed program limits.page (stack_bytes limits) h move
         → HasStack (stack_bytes limits) m.words → Arrives program Serial limits.page input code old left calls h move m → Goes left (serial h move) m printed
-    arrive (silent d g) old left calls h m printed formed stack (stands x) = λ e after. after m stack (x.0, x.2)
+    arrive (silent d g) old left calls h m printed formed stack (stands x) = λ e after. after m stack (x.0, x.3)
+    arrive (silent d g) old left calls h m printed formed stack (turns x) = turned old printed stack x
     arrive (silent d g) old left calls h m printed formed stack (hears n (inl reply) x) = λ e after.
-        let later = after (replied_machine m (Some n)) stack (x.0, x.2) in
+        let later = after (replied_machine m (Some n)) stack (old, x) in
         (suc later.0, run.hears n (asks 2 m (answer.Replies n) reply.0 (ap number_answer reply.2 ∙ ap answer.Replies (sym reply.3))) later.1)
     arrive (silent d g) old left calls h m printed formed stack (hears n (inr reply) x) = λ e after.
-        let later = after (replied_machine m (Some n)) stack (x.0, x.2) in
+        let later = after (replied_machine m (Some n)) stack (old, x) in
         (suc later.0, run.hears n (asks 3 m (answer.Replies n) reply.0 (ap answer.Replies (sym reply.1))) later.1)
     arrive (silent d g) old left calls h m printed formed stack (opens f before calls_are frames may x) = λ e after.
-        over opened.count m opened.last printed e opened.comes_to
-        (after opened.last (λ a whole low high. kept_run code opened.count m opened.last opened.comes_to a (stack a whole low high)) (opened.stands.0, opened.stands.2))
+        over opened.count m opened.last printed e comes_to
+        (after opened.last (λ a whole low high. kept_run code opened.count m opened.last comes_to a (stack a whole low high)) (opened.stands.0, opened.stands.3))
       where
         above : 2 ^ 30 ≤ old.low + taken program limits.page before
         above = may_stand_above program limits.page before old.frames old.low runs.page_is frames may
@@ -178,8 +187,11 @@ module _ (program : Program) (limits : Limits) (input : List ℤ) (code : Code) 
 
         opened : Reaches program Serial limits.page input code old left d g m
         opened = x.goes_on m.words (record { keeps_writable = λ a v e. e; keeps_readable = λ a v e. ap (λ s. reads s) e }) mapped
-    arrive (ticks d g) old zero calls h m printed formed stack x = (1, run.stops stop.Spent (asks 6 m _ x refl) refl)
-    arrive (ticks d g) old (suc left) calls h m printed formed stack x = λ e after. after m stack (x.0, x.2)
+
+        comes_to : ComesTo code opened.count m opened.last
+        comes_to = comes_by_steps code opened.count m opened.last opened.goes_to
+    arrive (ticks d g) old zero calls h m printed formed stack x = (1, run.stops stop.Spent (asks 6 m _ x.0 refl) refl)
+    arrive (ticks d g) old (suc left) calls h m printed formed stack x = λ e after. after m stack (old, x)
     arrive (prints v d g) old left calls h m printed formed stack x = λ e after.
         let later = after (passed m) stack (old, x.2) in
         let number = signed_bits v (m.registers reg.VALUE) x.1 x.3 in (
@@ -187,12 +199,10 @@ module _ (program : Program) (limits : Limits) (input : List ℤ) (code : Code) 
           run.prints (asks 1 m answer.Prints x.0 refl) (subst (λ t. RunEnds code input limits.ticks t (printed ++ cast_signed w32 (m.registers reg.VALUE) ∷ []) later.0 e) (passed_is m x.0.there)
               (subst (λ w. RunEnds code input limits.ticks (passed m) (printed ++ w ∷ []) later.0 e) (sym number) later.1)),
         )
-    arrive (spawns child lent x d kept) old left calls h m printed formed stack arrives = λ e after.
-        let y = subst (λ own. ArrivesSpawn program Serial limits.page input code own old left h child lent x d kept m) (serial_here program calls) arrives in
-        after m stack (y.0, y.2)
+    arrive (spawns child lent x d kept) old left calls h m printed formed stack arrives =
+        turned old printed stack (subst (λ own. ArrivesSpawn program Serial limits.page input code own old left h child lent x d kept m) (serial_here program calls) arrives)
     arrive (syncs d) old left calls h m printed formed stack arrives = λ e after.
-        let y = subst (λ own. ArrivesSync program Serial limits.page input code own old left h d m) (serial_here program calls) arrives in
-        after m stack (y.0, y.2)
+        after m stack (old, subst (λ own. ArrivesSync program Serial limits.page input code own old left h d m) (serial_here program calls) arrives)
     arrive (traps kind.Divide) old left calls h m printed formed stack x = λ used sum. (1, run.stops (stop.Trap trap.Divide) (asks 7 m _ x.0 refl) (used, (let t = x.1 in omega (arith, t, sum)), refl))
     arrive (traps kind.Index) old left calls h m printed formed stack x = λ used sum. (1, run.stops (stop.Trap trap.Index) (asks 8 m _ x.0 refl) (used, (let t = x.1 in omega (arith, t, sum)), refl))
     arrive (traps kind.Stack) old left calls h m printed formed stack x = λ used sum. (1, run.stops (stop.Trap trap.Stack) (asks 9 m _ x.0 refl) (used, (let t = x.1 in omega (arith, t, sum)), refl))
@@ -201,7 +211,7 @@ module _ (program : Program) (limits : Limits) (input : List ℤ) (code : Code) 
         (1, run.stops (stop.Trap trap.Input) (asks 2 m _ x.0.0 (ap number_answer none)) (used, (let t = x.1 in omega (arith, t, sum)), refl))
     arrive (ends None) old left calls h m printed formed stack x = tt
     arrive (ends (Some v)) old left calls h m printed formed stack x = λ used sum.
-        (1, run.stops stop.Value (asks 0 m _ x.0 refl) (used, (let t = x.3 in omega (arith, t, sum)), ap (λ w. Done printed (Some w) used) (sym (signed_bits v (m.registers reg.RESULT) x.1 x.2))))
+        (1, run.stops stop.Value (asks 0 m _ x.0 refl) (used, (let t = x.2 in omega (arith, t, sum)), ap (λ w. Done printed (Some w) used) (sym (signed_bits v (m.registers reg.RESULT) x.1.0 x.1.1))))
     arrive stuck old left calls h m printed formed stack x = tt
 
     -- the instructions of a step, and then where it arrives
@@ -222,9 +232,10 @@ module _ (program : Program) (limits : Limits) (input : List ℤ) (code : Code) 
         → HasStack (stack_bytes limits) m.words → Exact program Serial limits.page input code left c h m → Goes left (serial_step program limits.page input c h) m printed
     goes left c h m printed small formed stack x =
         let t = takes x.0 left c h m small formed x.1 in
-        goes_over (serial h (step program limits.page input c h)) left t.count m t.last printed t.comes_to
+        let comes_to = comes_by_steps code t.count m t.last t.goes_to in
+        goes_over (serial h (step program limits.page input c h)) left t.count m t.last printed comes_to
         (arrive (step program limits.page input c h) x.0 left c.calls h t.last printed (keeps c h formed)
-        (λ a whole low high. kept_run code t.count m t.last t.comes_to a (stack a whole low high)) t.arrives)
+        (λ a whole low high. kept_run code t.count m t.last comes_to a (stack a whole low high)) t.arrives)
 
     -- ---- the elision
 

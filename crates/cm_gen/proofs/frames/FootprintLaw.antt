@@ -9,7 +9,7 @@ use Rattle.cm_meaning.specs.TypedState.{slots_at}
 use Rattle.cm_meaning.specs.Activation.{IsInner, IsLeaving, IsOuter, FitsHand, end_count}
 use Rattle.cm_gen.specs.declared.form.Form.{Form}
 use Rattle.cm_gen.specs.Standing.{Frame, used, arguments_size, slots_here}
-use Rattle.cm_gen.specs.FrameWord.{IsOwnNumber, temporary_number, words_at, word_address, AreFrames, cell_at, HasTemporary, HasArguments, Kept, Touches, of_slot, of_call}
+use Rattle.cm_gen.specs.FrameWord.{IsOwnNumber, temporary_number, words_at, word_address, AreFrames, cell_at, HasTemporary, HasArguments, Holds, Kept, Touches, of_slot, of_call}
 use Rattle.cm_gen.specs.Formed.{HasRoom, RestFits, Formed}
 use Rattle.cm_gen.specs.StandsFor.{Spot, ExactAt, with_words}
 use Rattle.cm_gen.proofs.frames.CellLaw.{has_same}
@@ -111,6 +111,12 @@ module _ (program : Program) (page : ℕ) where
           (same d n (omega (arith, deep)) (omega (arith, ends)) low (omega (arith, high, many)) (subst (λ s. IsOwnNumber s n) (sym slots) own))
   kept_same (_ ∷ k) calls frames h v w shaped fits shape same kept = kept_same k calls frames h v w (inner_shaped k shaped) fits.1 shape same kept
 
+  -- what is held is held where the words of slots that aren't absent are as they were
+  pub holds_with : (calls : List ℕ) (frames : List Frame) (h : Stack) (w v : Mapped) (ends : ℕ) → Holds program page calls frames h w
+      → ((a : ℕ) → Touches program page calls frames h ends a → v a ≡ w a) → Holds program page calls frames h v
+  holds_with calls frames h w v ends holds same = λ d s i deep place.
+      has_same program page (cell_at program page calls frames h d s i) _ _ (λ some. same _ (of_slot d s i deep place some refl)) (holds d s i deep place)
+
   -- where the words that it speaks of are as they were, a state that stands stands
   pub stands_with : (form : Form) (limit : ℕ) (input : List ℤ) (code : Code) (spot : Spot) (left : ℕ) (c : Control) (h : Stack) (m : Machine) (w : Mapped) → Formed program page limit c h
       → ExactAt program form page input code spot left c h m → ((a : ℕ) → Touches program page c.calls spot.frames h (end_count c.rest) a → w a ≡ m.words a)
@@ -118,10 +124,11 @@ module _ (program : Program) (page : ℕ) where
   stands_with form limit input code spot left c h m w formed x same = record {
     frames = x.frames;
     may_stand = x.may_stand;
-    slots = λ d s i deep place. has_same program page (cell_at program page c.calls spot.frames h d s i) _ _ (λ some. same _ (of_slot d s i deep place some refl)) (x.slots d s i deep place);
+    slots = holds_with c.calls spot.frames h m.words w (end_count c.rest) x.slots same;
     kept = kept_same c.rest c.calls spot.frames h w m.words (hand_shaped c.hand c.rest formed.settled.shape) formed.fits x.frames
         (λ d n deep ends low high own. same _ (of_call d n deep ends low high own refl)) x.kept;
     own = λ d n deep ends low high own. subst IsWritable (sym (same _ (of_call d n deep ends low high own refl))) (x.own d n deep ends low high own);
+    returns_are = x.returns_are;
     zero_is = x.zero_is;
     low_is = x.low_is;
     account_is = x.account_is;

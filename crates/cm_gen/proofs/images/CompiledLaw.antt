@@ -21,7 +21,7 @@ use Rattle.cm_gen.proofs.images.AddressLaw.{words_are_instructions}
 use Rattle.cm_gen.proofs.images.ImageLaw.{laid-append, length-front, serial_codes}
 use Rattle.cm_gen.proofs.sizes.SoundFitsLaw.{sound_functions}
 
-length-laid : (address : ℕ) (parts : List Part) → length (laid address parts) ≡ length parts
+pub length-laid : (address : ℕ) (parts : List Part) → length (laid address parts) ≡ length parts
 length-laid address [] = refl
 length-laid address (first ∷ more) = ap suc (length-laid (address + 4) more)
 

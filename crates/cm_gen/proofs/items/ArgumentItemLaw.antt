@@ -7,7 +7,7 @@ use Rattle.std.specs.Int.{w32, cast_unsigned}
 use Rattle.cm_isa.specs.Alu.{int, word as word_of, offset}
 use Rattle.cm_isa.specs.Action.{follow}
 use Rattle.cm_isa.specs.Machine.{Machine, Mapped, Code, machine_with, with_word}
-use Rattle.cm_isa.specs.Run.{ComesTo}
+use Rattle.cm_gen.specs.Returns.{GoesTo}
 use Rattle.cm_isa.specs.Register.{with_register}
 use Rattle.cm_isa.specs.declared.convention.TheConstants as reg
 use Rattle.cm_syntax.specs.declared.expr.Expr.{Expr}
@@ -105,22 +105,22 @@ module _ (program : Program) (form : Form) (page limit : ℕ) (input : List ℤ)
         let most = le-max_left (j + 1 + arguments_words more) (arguments_temporaries more (j + 1)) in
         let less : j < count = omega (arith, most) in
         let old = kept_temporary program page (pass u g ws more ∷ k) f calls spot.frames h m.words j count (bits v) fits x.frames (omega arith) fits.0.0 less x.kept in
-        let last = puts_temporary program form page input code x (arguments u g (word v ∷ ws) more ∷ k) j count reg.VALUE (bits v) m fits.0.0 less some (same_self m.registers) refl refl here.0
+        let last = puts_temporary program form page input code x tt (arguments u g (word v ∷ ws) more ∷ k) j count reg.VALUE (bits v) m fits.0.0 less some (same_self m.registers) refl refl here.0
         (code_at code is (StandsThen code rest (coded k)) m.counter (store_slot_some reg.VALUE (temporary_offset slots j)) c)
         (subst (λ n. LeadsTo code (StandsThen code (behind u g more n) (coded k)) (m.counter + 4 * length is)) size (straight_end code is (StandsThen code rest (coded k)) m.counter c))
         ((with_word_same m.words (temporary_address program page f calls spot.frames j) (bits v), here.1, old.0), old.1)
         refl in
         leads_on program form page input code last.0 last.1 last.2 last.3
 
-    value_by : (u : Purpose) (g : ℕ) (ws : List Argument) (hand : Hand) (e : Expr ℕ) {n : _} (more : Row_of-Arg ℕ n)
+    value_by : (u : Purpose) (g : ℕ) (ws : List Argument) (hand : Hand) → IsPlain hand → (e : Expr ℕ) {n : _} (more : Row_of-Arg ℕ n)
         → exact hand (arguments u g ws (more_of-Arg (argument.Value e) more) ∷ k) → coded (arguments u g ws (more_of-Arg (argument.Value e) more) ∷ k) m.counter
         → leads (evaluate e ∷ pass u g ws more ∷ k)
-    value_by u g ws hand e more x c =
+    value_by u g ws hand plain e more x c =
         let w = arguments_size ws in
         let first = expression_code slots e (used k + w) in
         let second = pass_code slots more (used k) w in
         let enters = enter_code (form_here program form (f ∷ calls)) slots u g in
-        goes_on program form page input code x (evaluate e ∷ pass u g ws more ∷ k) x.kept refl
+        goes_on program form page input code x plain (evaluate e ∷ pass u g ws more ∷ k) x.kept refl
         (parted code first (second ++ enters) (coded k) m.counter (subst (λ l. StandsThen code l (coded k) m.counter) (append_assoc first second enters) c))
 
     -- ---- a slice
@@ -133,14 +133,14 @@ module _ (program : Program) (form : Form) (page limit : ℕ) (input : List ℤ)
         (temporary_word program page f calls j count room less) (temporary_word program page f calls i count room (omega (arith, before, less))) (λ e same. omega (arith, before, same)) ∙ there
 
     -- both words of a slice are stored
-    slice_stored : (u : Purpose) (g : ℕ) (ws : List Argument) (hand : Hand) (r : Reference) {n o : _} (row : Row_of-Arg ℕ n) (more : Row_of-Arg ℕ o) (count steps : ℕ) (t : Machine)
+    slice_stored : (u : Purpose) (g : ℕ) (ws : List Argument) (hand : Hand) → IsPlain hand → (r : Reference) {n o : _} (row : Row_of-Arg ℕ n) (more : Row_of-Arg ℕ o) (count steps : ℕ) (t : Machine)
         → exact hand (arguments u g ws row ∷ k) → RestFits program page (arguments u g ws row ∷ k) (f ∷ calls) → HasRoom program page (f ∷ calls) count → used k + arguments_size ws + 1 < count
-        → ComesTo code steps m t → SameRegisters m.registers t.registers → IsAtFrame program page (f ∷ calls) spot.frames (end_count k) h t
+        → GoesTo code steps m t → SameRegisters m.registers t.registers → IsAtFrame program page (f ∷ calls) spot.frames (end_count k) h t
         → t.words ≡ with_word (with_word m.words (temporary_address program page f calls spot.frames (used k + arguments_size ws)) (reference_address program page (f ∷ calls) spot.frames r))
         (temporary_address program page f calls spot.frames (used k + arguments_size ws + 1)) r.length
         → LeadsTo code (StandsThen code (behind u g more (arguments_size ws + 2)) (coded k)) t.counter
         → leads (arguments u g (slice r ∷ ws) more ∷ k)
-    slice_stored u g ws hand r row more count steps t x fits room less comes same at words next =
+    slice_stored u g ws hand plain r row more count steps t x fits room less comes same at words next =
         let j = used k + arguments_size ws in
         let l = arguments u g ws row ∷ k in
         let a = reference_address program page (f ∷ calls) spot.frames r in
@@ -149,7 +149,7 @@ module _ (program : Program) (form : Form) (page limit : ℕ) (input : List ℤ)
         let first = kept_temporary program page l f calls spot.frames h m.words j count a fits x.frames (omega arith) room (omega (arith, less)) x.kept in
         let second = kept_temporary program page l f calls spot.frames h w (j + 1) count r.length fits x.frames (omega arith) room less first in
         let size : arguments_size ws + 2 ≡ arguments_size (slice r ∷ ws) = omega arith in
-        leads_on program form page input code steps t comes (exact_with program form page input code x idle (arguments u g (slice r ∷ ws) more ∷ k) h t same at.base.slots
+        leads_on program form page input code steps t comes (exact_with program form page input code x plain idle tt (arguments u g (slice r ∷ ws) more ∷ k) h t same refl at.base.slots
         (subst (λ w. Kept program page (arguments u g (slice r ∷ ws) more ∷ k) (f ∷ calls) spot.frames h w) (sym words) (
           (
             temporary_lasts j (j + 1) count r.length a w x.frames room (omega arith) less (with_word_same m.words (temporary_address program page f calls spot.frames j) a),
@@ -162,13 +162,13 @@ module _ (program : Program) (form : Form) (page limit : ℕ) (input : List ℤ)
         (subst (λ n. LeadsTo code (StandsThen code (behind u g more n) (coded k)) t.counter) size next))
 
     -- a slice in LEFT and VALUE is stored
-    both_stored : (u : Purpose) (g : ℕ) (ws : List Argument) (hand : Hand) (r : Reference) {n o : _} (row : Row_of-Arg ℕ n) (more : Row_of-Arg ℕ o) (count steps : ℕ) (t : Machine)
+    both_stored : (u : Purpose) (g : ℕ) (ws : List Argument) (hand : Hand) → IsPlain hand → (r : Reference) {n o : _} (row : Row_of-Arg ℕ n) (more : Row_of-Arg ℕ o) (count steps : ℕ) (t : Machine)
         → exact hand (arguments u g ws row ∷ k) → RestFits program page (arguments u g ws row ∷ k) (f ∷ calls) → HasRoom program page (f ∷ calls) count → used k + arguments_size ws + 1 < count → 0 < end_count k
-        → ComesTo code steps m t → SameRegisters m.registers t.registers → t.words ≡ m.words → t.registers reg.LEFT ≡ reference_address program page (f ∷ calls) spot.frames r → t.registers reg.VALUE ≡ r.length
+        → GoesTo code steps m t → SameRegisters m.registers t.registers → t.words ≡ m.words → t.registers reg.LEFT ≡ reference_address program page (f ∷ calls) spot.frames r → t.registers reg.VALUE ≡ r.length
         → let is = store_slot reg.LEFT (temporary_offset slots (used k + arguments_size ws)) ++ store_slot reg.VALUE (temporary_offset slots (used k + arguments_size ws + 1)) in IsCodeAt code t.counter is
         → LeadsTo code (StandsThen code (behind u g more (arguments_size ws + 2)) (coded k)) (t.counter + 4 * length is)
         → leads (arguments u g (slice r ∷ ws) more ∷ k)
-    both_stored u g ws hand r row more count steps t x fits room less some comes same words address number here next =
+    both_stored u g ws hand plain r row more count steps t x fits room less some comes same words address number here next =
         let j = used k + arguments_size ws in
         let second = store_slot reg.LEFT (temporary_offset slots j) in
         let third = store_slot reg.VALUE (temporary_offset slots (j + 1)) in
@@ -183,18 +183,18 @@ module _ (program : Program) (form : Form) (page limit : ℕ) (input : List ℤ)
         let a = temporary_address program page f calls spot.frames j in
         let b = temporary_address program page f calls spot.frames (j + 1) in
         let end : t.counter + 4 * length (second ++ third) ≡ again.0.counter = omega (arith, place, place_u, sizes) in
-        slice_stored u g ws hand r row more count (steps + length second + length third) again.0 x fits room less
+        slice_stored u g ws hand plain r row more count (steps + length second + length third) again.0 x fits room less
         (comes_on code (steps + length second) (length third) m kept.0 again.0 (comes_on code steps (length second) m t kept.0 comes kept.1) again.1)
         (same_after (same_after same (same_leaves refl one.leaves)) (same_leaves refl two.leaves)) two.at
         (two.leaves.words ∙ ap (with_word kept.0.words b) (one.leaves.kept reg.VALUE refl ∙ number) ∙ ap (λ w. with_word w b r.length) (one.leaves.words ∙ ap (λ w. with_word w a (t.registers reg.LEFT)) words ∙ ap (with_word m.words a) address))
         (subst (LeadsTo code (StandsThen code (behind u g more (arguments_size ws + 2)) (coded k))) end next)
 
-    slice_by : (u : Purpose) (g : ℕ) (ws : List Argument) (hand : Hand) (a : Mark ℕ) (r : Reference) {n o : _} (row : Row_of-Arg ℕ n) (more : Row_of-Arg ℕ o) (count : ℕ)
+    slice_by : (u : Purpose) (g : ℕ) (ws : List Argument) (hand : Hand) → IsPlain hand → (a : Mark ℕ) (r : Reference) {n o : _} (row : Row_of-Arg ℕ n) (more : Row_of-Arg ℕ o) (count : ℕ)
         → exact hand (arguments u g ws row ∷ k) → RestFits program page (arguments u g ws row ∷ k) (f ∷ calls) → HasRoom program page (f ∷ calls) count → used k + arguments_size ws + 1 < count → 0 < end_count k
         → value_in (row_of program page (f ∷ calls) h a.name) ≡ Some r → IsRow program page (f ∷ calls) spot.frames r
         → StandsThen code ((straight (keep_slice slots a.name (used k + arguments_size ws)) ++ arguments_code slots more (used k) (arguments_size ws + 2)) ++ enter_code (form_here program form (f ∷ calls)) slots u g) (coded k) m.counter
         → leads (arguments u g (slice r ∷ ws) more ∷ k)
-    slice_by u g ws hand a r row more count x fits room less some row_is is c =
+    slice_by u g ws hand plain a r row more count x fits room less some row_is is c =
         let j = used k + arguments_size ws in
         let all = keep_slice slots a.name j in
         let first = base slots a.name in
@@ -214,8 +214,8 @@ module _ (program : Program) (form : Form) (page limit : ℕ) (input : List ℤ)
         let here_s = code_back code first (moves ++ (second ++ third)) place here in
         let small = is.small in
         let below = here_s.below in
-        let value : word_of (int (s.registers reg.HELP) +ℤ int (cast_unsigned w32 (pos 0))) ≡ r.length = ap (λ n. word_of (int n +ℤ int (cast_unsigned w32 (pos 0)))) does.value.1 ∙ plain r.length (omega (arith, small)) in
-        let moved = sets_by_one code (addi reg.VALUE reg.HELP (pos 0)) reg.VALUE r.length s refl (omega (arith, below)) here_s.there.0
+        let value : word_of (int (s.registers reg.HELP) +ℤ int (cast_unsigned w32 (pos 0))) ≡ r.length = ap (λ n. word_of (int n +ℤ int (cast_unsigned w32 (pos 0)))) does.value.1 ∙ same_word r.length (omega (arith, small)) in
+        let moved = sets_by_one code (addi reg.VALUE reg.HELP (pos 0)) refl reg.VALUE r.length s refl (omega (arith, below)) here_s.there.0
         (ap (λ v. Some (machine_with s (with_register s.registers reg.VALUE v) (follow s.counter))) value) in
         let t = moved.0 in
         let sets = moved.2 in
@@ -223,22 +223,22 @@ module _ (program : Program) (form : Form) (page limit : ℕ) (input : List ℤ)
         let here_t = code_back code moves (second ++ third) place_t here_s in
         let same_s : SameRegisters m.registers s.registers = same_leaves refl does in
         let end : m.counter + 4 * length all ≡ t.counter + 4 * length (second ++ third) = omega (arith, place, place_t, sized) in
-        both_stored u g ws hand r row more count (length first + 1) t x fits room less some (comes_on code (length first) 1 m s t ran.1 moved.1)
+        both_stored u g ws hand plain r row more count (length first + 1) t x fits room less some (comes_on code (length first) 1 m s t ran.1 moved.1)
         (same_after same_s (same_leaves refl sets)) (sets.words ∙ does.words) (sets.kept reg.LEFT refl ∙ does.value.0) sets.value here_t
         (subst (LeadsTo code (StandsThen code rest (coded k))) end (straight_end code all (StandsThen code rest (coded k)) m.counter parts))
       where
-        plain : (n : ℕ) → n < 2 ^ 32 → word_of (int n +ℤ int (cast_unsigned w32 (pos 0))) ≡ n
-        plain n few = words.word-add n 0 few (omega arith) ∙ omega (arith, few)
+        same_word : (n : ℕ) → n < 2 ^ 32 → word_of (int n +ℤ int (cast_unsigned w32 (pos 0))) ≡ n
+        same_word n few = words.word-add n 0 few (omega arith) ∙ omega (arith, few)
 
     -- behind the address of a scalar in its temporary: the number of words, 1, comes into the next one
-    number_stored : (u : Purpose) (g : ℕ) (ws : List Argument) (hand : Hand) (r : Reference) {n o : _} (row : Row_of-Arg ℕ n) (more : Row_of-Arg ℕ o) (count steps : ℕ) (s : Machine)
+    number_stored : (u : Purpose) (g : ℕ) (ws : List Argument) (hand : Hand) → IsPlain hand → (r : Reference) {n o : _} (row : Row_of-Arg ℕ n) (more : Row_of-Arg ℕ o) (count steps : ℕ) (s : Machine)
         → exact hand (arguments u g ws row ∷ k) → RestFits program page (arguments u g ws row ∷ k) (f ∷ calls) → HasRoom program page (f ∷ calls) count → used k + arguments_size ws + 1 < count → 0 < end_count k
-        → r.length ≡ 1 → ComesTo code steps m s → SameRegisters m.registers s.registers → IsAtFrame program page (f ∷ calls) spot.frames (end_count k) h s
+        → r.length ≡ 1 → GoesTo code steps m s → SameRegisters m.registers s.registers → IsAtFrame program page (f ∷ calls) spot.frames (end_count k) h s
         → s.words ≡ with_word m.words (temporary_address program page f calls spot.frames (used k + arguments_size ws)) (reference_address program page (f ∷ calls) spot.frames r)
         → let is = load_number reg.VALUE (pos 1) ++ store_slot reg.VALUE (temporary_offset slots (used k + arguments_size ws + 1)) in IsCodeAt code s.counter is
         → LeadsTo code (StandsThen code (behind u g more (arguments_size ws + 2)) (coded k)) (s.counter + 4 * length is)
         → leads (arguments u g (slice r ∷ ws) more ∷ k)
-    number_stored u g ws hand r row more count steps s x fits room less some one_word comes same at words here next =
+    number_stored u g ws hand plain r row more count steps s x fits room less some one_word comes same at words here next =
         let j = used k + arguments_size ws + 1 in
         let third = load_number reg.VALUE (pos 1) in
         let fourth = store_slot reg.VALUE (temporary_offset slots j) in
@@ -255,18 +255,18 @@ module _ (program : Program) (form : Form) (page limit : ℕ) (input : List ℤ)
         let place_u = two.leaves.counter in
         let a = temporary_address program page f calls spot.frames j in
         let end : s.counter + 4 * length (third ++ fourth) ≡ again.0.counter = omega (arith, place, place_u, sizes) in
-        slice_stored u g ws hand r row more count (steps + length third + length fourth) again.0 x fits room less
+        slice_stored u g ws hand plain r row more count (steps + length third + length fourth) again.0 x fits room less
         (comes_on code (steps + length third) (length fourth) m v again.0 (comes_on code steps (length third) m s v comes ran.1) again.1)
         (same_after (same_after same same_v) (same_leaves refl two.leaves)) two.at
         (two.leaves.words ∙ ap (with_word v.words a) (puts.value ∙ sym one_word) ∙ ap (λ w. with_word w a r.length) (puts.words ∙ words))
         (subst (LeadsTo code (StandsThen code (behind u g more (arguments_size ws + 2)) (coded k))) end next)
 
-    address_by : (u : Purpose) (g : ℕ) (ws : List Argument) (hand : Hand) (s : Mark ℕ) {n o : _} (row : Row_of-Arg ℕ n) (more : Row_of-Arg ℕ o) (count : ℕ)
+    address_by : (u : Purpose) (g : ℕ) (ws : List Argument) (hand : Hand) → IsPlain hand → (s : Mark ℕ) {n o : _} (row : Row_of-Arg ℕ n) (more : Row_of-Arg ℕ o) (count : ℕ)
         → exact hand (arguments u g ws row ∷ k) → RestFits program page (arguments u g ws row ∷ k) (f ∷ calls) → HasRoom program page (f ∷ calls) count → used k + arguments_size ws + 1 < count → 0 < end_count k
         → slice_get slots s.name ≡ Some slot.Scalar
         → StandsThen code ((straight (keep_scalar slots s.name (used k + arguments_size ws)) ++ arguments_code slots more (used k) (arguments_size ws + 2)) ++ enter_code (form_here program form (f ∷ calls)) slots u g) (coded k) m.counter
         → leads (arguments u g (slice (scalar_slice (length calls) s.name) ∷ ws) more ∷ k)
-    address_by u g ws hand x row more count y fits room less some kind c =
+    address_by u g ws hand plain x row more count y fits room less some kind c =
         let j = used k + arguments_size ws in
         let r = scalar_slice (length calls) x.name in
         let o = slot_offset slots x.name in
@@ -297,7 +297,7 @@ module _ (program : Program) (form : Form) (page limit : ℕ) (input : List ℤ)
         let a = temporary_address program page f calls spot.frames j in
         let address : t.registers reg.LEFT ≡ reference_address program page (f ∷ calls) spot.frames r = sets.value ∙ ap (λ l. word_address spot.frames (length calls) (word_number l x.name 0)) (sym (slots_top program page f calls)) in
         let end : m.counter + 4 * length all ≡ kept.0.counter + 4 * length last = omega (arith, place_t, place_s, sized, sizes) in
-        number_stored u g ws hand r row more count (length first + length second) kept.0 y fits room less some refl
+        number_stored u g ws hand plain r row more count (length first + length second) kept.0 y fits room less some refl
         (comes_on code (length first) (length second) m t kept.0 ran.1 kept.1) (same_after same_t (same_leaves refl one.leaves)) one.at
         (one.leaves.words ∙ ap (λ w. with_word w a (t.registers reg.LEFT)) sets.words ∙ ap (with_word m.words a) address)
         (code_back code second last place_s here_t)
@@ -325,12 +325,12 @@ module _ (program : Program) (form : Form) (page limit : ℕ) (input : List ℤ)
       (item_step program page input (control calls account hand (arguments u g ws (more_of-Arg first more) ∷ k)) h (arguments u g ws (more_of-Arg first more)) k) m
   argument_law u g ws first more spot left [] account hand k h m none formed x here = absurd formed.fits.0.0
   argument_law u g ws (argument.Value e) more spot left (f ∷ calls) account hand k h m none formed x here =
-      value_by spot left f calls account k h m u g ws hand e more x (coded_of program form page limit input code hand (arguments u g ws (more_of-Arg (argument.Value e) more) ∷ k) (f ∷ calls) spot.frames m.registers m.counter none here)
+      value_by spot left f calls account k h m u g ws hand none e more x (coded_of program form page limit input code hand (arguments u g ws (more_of-Arg (argument.Value e) more) ∷ k) (f ∷ calls) spot.frames m.registers m.counter none here)
   argument_law u g ws (argument.Slice a) more spot left (f ∷ calls) account hand k h m none formed x here =
       by_slice program form page input code (f ∷ calls) h a.name _ (λ r row.
       let j = used k + arguments_size ws in
       let most = le-max_left (j + (2 + arguments_words more)) (max j (arguments_temporaries more (j + 2))) in
-      slice_by spot left f calls account k h m u g ws hand a r (more_of-Arg (argument.Slice a) more) more _ x formed.fits formed.fits.0.0 (omega (arith, most))
+      slice_by spot left f calls account k h m u g ws hand none a r (more_of-Arg (argument.Slice a) more) more _ x formed.fits formed.fits.0.0 (omega (arith, most))
       (some_end program page limit (f ∷ calls) account hand (arguments u g ws (more_of-Arg (argument.Slice a) more)) k h none tt formed) row
       (is_row program page (f ∷ calls) spot.frames r x.frames (row_within program page limit (f ∷ calls) account hand _ h a.name r formed (omega arith) row))
       (coded_of program form page limit input code hand (arguments u g ws (more_of-Arg (argument.Slice a) more) ∷ k) (f ∷ calls) spot.frames m.registers m.counter none here))
@@ -339,6 +339,6 @@ module _ (program : Program) (form : Form) (page limit : ℕ) (input : List ℤ)
       let most = le-max_left (j + (2 + arguments_words more)) (max j (arguments_temporaries more (j + 2))) in
       let o = opened program page limit (f ∷ calls) account hand (arguments u g ws (more_of-Arg (argument.Address s) more)) k h none tt formed in
       let kind = ap (λ l. slice_get l s.name) (slots_are program page limit o) ∙ of_scalar program o.function.slots o.set _ s more o.inner.1.2 in
-      address_by spot left f calls account k h m u g ws hand s (more_of-Arg (argument.Address s) more) more _ x formed.fits formed.fits.0.0 (omega (arith, most))
+      address_by spot left f calls account k h m u g ws hand none s (more_of-Arg (argument.Address s) more) more _ x formed.fits formed.fits.0.0 (omega (arith, most))
       (some_end program page limit (f ∷ calls) account hand (arguments u g ws (more_of-Arg (argument.Address s) more)) k h none tt formed) kind
       (coded_of program form page limit input code hand (arguments u g ws (more_of-Arg (argument.Address s) more) ∷ k) (f ∷ calls) spot.frames m.registers m.counter none here)

@@ -9,7 +9,7 @@ use Rattle.cm_isa.specs.Alu as alu
 use Rattle.cm_isa.specs.Alu.{int}
 use Rattle.cm_isa.specs.Action.{follow}
 use Rattle.cm_isa.specs.Machine.{Machine, Code, machine_with}
-use Rattle.cm_isa.specs.Run.{ComesTo}
+use Rattle.cm_gen.specs.Returns.{GoesTo}
 use Rattle.cm_isa.specs.Register.{with_register}
 use Rattle.cm_syntax.specs.declared.stmt.Slot.TheVariants as slot
 use Rattle.cm_syntax.specs.declared.stmt.Program.{Program}
@@ -44,13 +44,13 @@ module _ (program : Program) (form : Form) (page limit : ℕ) (input : List ℤ)
   abbrev taken_over : Machine → (value : ℕ) → Machine
   taken_over m n = machine_with m (with_register m.registers reg.VALUE n) (m.counter + 4)
 
-  takes_over : (v : ℤ) (m : Machine) → m.registers reg.RESULT ≡ bits v → FitsSigned w32 v → Stands code m.counter (addi reg.VALUE reg.RESULT (pos 0)) → ComesTo code 1 m (taken_over m (bits v))
+  takes_over : (v : ℤ) (m : Machine) → m.registers reg.RESULT ≡ bits v → FitsSigned w32 v → Stands code m.counter (addi reg.VALUE reg.RESULT (pos 0)) → GoesTo code 1 m (taken_over m (bits v))
   takes_over v m result fits there =
       let b = there.below in
       let small = words.cast_unsigned_below v fits in
       let value : alu.word (int (m.registers reg.RESULT) +ℤ int (cast_unsigned w32 (pos 0))) ≡ bits v =
       ap (λ n. alu.word (int n +ℤ int (cast_unsigned w32 (pos 0)))) result ∙ words.word-add (bits v) 0 small (omega arith) ∙ omega (arith, small) in
-      set_at code (addi reg.VALUE reg.RESULT (pos 0)) reg.VALUE (bits v) m.counter m refl (omega (arith, b)) there.there (ap (λ n. Some (machine_with m (with_register m.registers reg.VALUE n) (follow m.counter))) value)
+      set_at code (addi reg.VALUE reg.RESULT (pos 0)) refl reg.VALUE (bits v) m.counter m refl (omega (arith, b)) there.there (ap (λ n. Some (machine_with m (with_register m.registers reg.VALUE n) (follow m.counter))) value)
 
   same_taken : (m : Machine) (n : ℕ) → SameRegisters m.registers (with_register m.registers reg.VALUE n)
   same_taken m n = record { zero_is = refl; sp = refl; account = refl; ticks = refl; pointer = refl }
@@ -61,7 +61,7 @@ module _ (program : Program) (form : Form) (page limit : ℕ) (input : List ℤ)
       → Placed program form page input code hand (take_back ∷ k) calls spot.frames m.registers m.counter
       → leads spot left calls h (take_value (control calls account hand (take_back ∷ k)) h hand k) m
   take_back_law spot left calls account (returned (Some v)) k h m no_call x here =
-      gives_value program form page input code x k v 1 (taken_over m (bits v)) (m.counter + 4) (takes_over v m here.0 here.1 here.2.0) (same_taken m (bits v)) refl refl refl here.1 x.kept refl here.2.1
+      gives_value program form page input code x tt k v 1 (taken_over m (bits v)) (m.counter + 4) (takes_over v m here.0 here.1 here.2.0) (same_taken m (bits v)) refl refl refl here.1 x.kept refl here.2.1
   take_back_law spot left calls account (returned None) k h m no_call x here = leads_stuck program form page input code
   take_back_law spot left calls account idle k h m no_call x here = leads_stuck program form page input code
   take_back_law spot left calls account (holds v) k h m no_call x here = leads_stuck program form page input code
@@ -73,8 +73,8 @@ module _ (program : Program) (form : Form) (page limit : ℕ) (input : List ℤ)
       → exact spot left (control calls account hand (discard ∷ k)) h m
       → Placed program form page input code hand (discard ∷ k) calls spot.frames m.registers m.counter
       → leads spot left calls h (drop_value (control calls account hand (discard ∷ k)) h hand k) m
-  discard_law spot left calls account (returned None) k h m no_call x here = goes_behind program form page input code x k x.kept refl here
-  discard_law spot left calls account (returned (Some v)) k h m no_call x here = goes_behind program form page input code x k x.kept refl here.2
+  discard_law spot left calls account (returned None) k h m no_call x here = goes_behind program form page input code x tt k x.kept refl here
+  discard_law spot left calls account (returned (Some v)) k h m no_call x here = goes_behind program form page input code x tt k x.kept refl here.2
   discard_law spot left calls account idle k h m no_call x here = leads_stuck program form page input code
   discard_law spot left calls account (holds v) k h m no_call x here = leads_stuck program form page input code
   discard_law spot left calls account (entering f ws) k h m no_call x here = absurd no_call
@@ -92,7 +92,7 @@ module _ (program : Program) (form : Form) (page limit : ℕ) (input : List ℤ)
       let is = assign_code (slots_here program (f ∷ calls)) x.slot in
       let next = Coded program form page code k (f ∷ calls) spot.frames in
       let n = taken_over m (bits v) in
-      let ran = puts_scalar program form page input code y k x.slot reg.VALUE v n kind some (same_taken m (bits v)) refl refl refl
+      let ran = puts_scalar program form page input code y tt k x.slot reg.VALUE v n kind some (same_taken m (bits v)) refl refl refl
       (code_at code is next n.counter (store_slot_some reg.VALUE (slot_offset (slots_here program (f ∷ calls)) x.slot)) here.2.1) (straight_end code is next n.counter here.2.1) fits y.kept refl in
       leads_on program form page input code (1 + ran.0) ran.1 (comes_on code 1 ran.0 m n ran.1 (takes_over v m here.0 here.1 here.2.0) ran.2) ran.3))
 
@@ -101,8 +101,8 @@ module _ (program : Program) (form : Form) (page limit : ℕ) (input : List ℤ)
       → exact spot left (control calls account hand (deliver x ∷ k)) h m
       → Placed program form page input code hand (deliver x ∷ k) calls spot.frames m.registers m.counter
       → leads spot left calls h (deliver_value (control calls account hand (deliver x ∷ k)) h hand x k) m
-  deliver_law spot left calls account (returned None) None k h m no_call formed y here = goes_behind program form page input code y k y.kept refl here
-  deliver_law spot left calls account (returned (Some v)) None k h m no_call formed y here = goes_behind program form page input code y k y.kept refl here.2
+  deliver_law spot left calls account (returned None) None k h m no_call formed y here = goes_behind program form page input code y tt k y.kept refl here
+  deliver_law spot left calls account (returned (Some v)) None k h m no_call formed y here = goes_behind program form page input code y tt k y.kept refl here.2
   deliver_law spot left calls account (returned None) (Some x) k h m no_call formed y here = absurd formed.hand_fits
   deliver_law spot left calls account (returned (Some v)) (Some x) k h m no_call formed y here =
       let o = opened program page limit calls account (returned (Some v)) (deliver (Some x)) k h tt tt formed in

@@ -63,7 +63,7 @@ end_offset pointer t n inside room most = (
     sums p t n inside room = omega (arith, ints, inside, room)
 
 module _ (program : Program) (form : Form) (page limit : ℕ) (input : List ℤ) (code : Code) where
-  module _ (spot : Spot) (left f : ℕ) (calls : List ℕ) (account : ℕ) (hand : Hand) (k : List Item) (h : Stack) (m : Machine) (more : List (items.Item ℕ)) (l : List Item)
+  module _ (spot : Spot) (left f : ℕ) (calls : List ℕ) (account : ℕ) (hand : Hand) (plain : IsPlain hand) (k : List Item) (h : Stack) (m : Machine) (more : List (items.Item ℕ)) (l : List Item)
       (x : ExactAt program form page input code spot left (control (f ∷ calls) account hand l) h m) (count : end_count k ≡ end_count l) (kept : Kept program page k (f ∷ calls) spot.frames h m.words)
       (fits : RestFits program page (declare more ∷ k) (f ∷ calls)) where
     abbrev slots : List Slot
@@ -132,7 +132,7 @@ module _ (program : Program) (form : Form) (page limit : ℕ) (input : List ℤ)
         let g = clear_words h (length calls) s n in
         leads_on program form page input code (length one + (length two + loop.0)) t
         (comes_on code (length one) (length two + loop.0) m t1 t ran.1 (comes_on code (length two) loop.0 t1 t2 t ran2.1 loop.2))
-        (exact_with program form page input code x idle (declare more ∷ k) g t (same_after (same_leaves refl does) (same_after (same_leaves refl does2) loop.4))
+        (exact_with program form page input code x plain idle tt (declare more ∷ k) g t (same_after (same_leaves refl does) (same_after (same_leaves refl does2) loop.4)) count
         loop.5.slots (kept_stack program page (declare more ∷ k) (f ∷ calls) spot.frames h g t.words fits x.frames refl loop.5.keeps)
         (subst (λ e. HasOwn program page e (f ∷ calls) spot.frames t.words) (sym count) loop.5.own)
         (subst (LeadsTo code later) end (straight_end code (clear_array_code o n) later m.counter here)))
@@ -142,11 +142,11 @@ module _ (program : Program) (form : Form) (page limit : ℕ) (input : List ℤ)
         → LeadsFrom program form page input code spot left (f ∷ calls) h (declare_item (control (f ∷ calls) account hand l) h s (extent_of kind) value more k) m
     declare_by s slot.Scalar None is size here rows = by_held program form page input code (h.words (length calls) s 0) _ (λ some.
         let puts = store_slot reg.ZERO (slot_offset slots s) in
-        let ran = puts_scalar program form page input code x (declare more ∷ k) s reg.ZERO (pos 0) m is some (same_self m.registers) refl refl x.zero_is
+        let ran = puts_scalar program form page input code x plain (declare more ∷ k) s reg.ZERO (pos 0) m is some (same_self m.registers) refl refl x.zero_is
         (code_at code puts later m.counter (store_slot_some reg.ZERO (slot_offset slots s)) here) (straight_end code puts later m.counter here) fits kept count in
         leads_on program form page input code ran.0 ran.1 ran.2 ran.3)
     declare_by s slot.Scalar (Some e) is size here rows =
-        goes_on program form page input code x (evaluate e ∷ assign s ∷ declare more ∷ k) kept count (parted code (expression_code slots e 0) (straight (assign_code slots s)) later m.counter here)
+        goes_on program form page input code x plain (evaluate e ∷ assign s ∷ declare more ∷ k) kept count (parted code (expression_code slots e 0) (straight (assign_code slots s)) later m.counter here)
     declare_by s (slot.Array n) value is size here rows = array_by s n is size (rows n refl) (may_write_all (h.words (length calls) s) n) refl here
     declare_by s slot.Slice value is size here rows = leads_stuck program form page input code
 
@@ -156,7 +156,7 @@ module _ (program : Program) (form : Form) (page limit : ℕ) (input : List ℤ)
       → Placed program form page input code hand (declare row ∷ k) calls spot.frames m.registers m.counter
       → LeadsFrom program form page input code spot left calls h (item_step program page input (control calls account hand (declare row ∷ k)) h (declare row) k) m
   declare_law [] spot left calls account hand k h m none formed x here =
-      goes_behind program form page input code x k x.kept refl (coded_of program form page limit input code hand (declare [] ∷ k) calls spot.frames m.registers m.counter none here)
+      goes_behind program form page input code x none k x.kept refl (coded_of program form page limit input code hand (declare [] ∷ k) calls spot.frames m.registers m.counter none here)
   declare_law (y ∷ more) spot left calls account hand k h m none formed x here =
       let o = opened program page limit calls account hand (declare (y ∷ more)) k h none tt formed in
       at calls (slot_here program page limit calls account hand (declare (y ∷ more) ∷ k) h o y.name.name y.slot o.inner.0.0) formed.fits formed x
@@ -169,7 +169,7 @@ module _ (program : Program) (form : Form) (page limit : ℕ) (input : List ℤ)
       at [] e fits formed x here = cc
       at (f ∷ calls) e fits formed x here =
           let slots = slots_here program (f ∷ calls) in
-          declare_by spot left f calls account hand k h m more (declare (y ∷ more) ∷ k) x refl x.kept
+          declare_by spot left f calls account hand none k h m more (declare (y ∷ more) ∷ k) x refl x.kept
           ((fits.0.0, room_less program page (f ∷ calls) (items_temporaries (y ∷ more)) (items_temporaries more) (omega arith) fits.0.1), fits.1)
           y.name.name y.slot y.first e formed.words.0.2 (parted code (item_code slots y.name.name y.slot y.first) (items_code slots more) (Coded program form page code k (f ∷ calls) spot.frames) m.counter here)
           (λ n is. row_within program page limit (f ∷ calls) account hand (declare (y ∷ more) ∷ k) h y.name.name (record { depth = length calls; slot = y.name.name; start = 0; length = n }) formed (omega arith)

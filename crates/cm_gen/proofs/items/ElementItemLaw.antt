@@ -28,7 +28,7 @@ use Rattle.cm_gen.specs.Code.{service}
 use Rattle.cm_gen.specs.Expression.{base, locate_code, element_code}
 use Rattle.cm_gen.specs.Standing.{LeadsTo, slots_here, Coded}
 use Rattle.cm_gen.specs.FrameWord.{bits, reference_address, row_of}
-use Rattle.cm_gen.specs.StandsFor.{Spot, stays, hears, Placed, ExactAt, LeadsFrom}
+use Rattle.cm_gen.specs.StandsFor.{Spot, hears, Placed, ExactAt, LeadsFrom}
 use Rattle.cm_gen.specs.Formed.{Formed}
 use Rattle.cm_gen.proofs.patterns.WordLaw as words
 use Rattle.cm_gen.proofs.patterns.StepLaw.{comes_on, load_word}
@@ -84,12 +84,12 @@ module _ (program : Program) (form : Form) (page limit : ℕ) (input : List ℤ)
           let load = code_back code locates (lw reg.VALUE reg.VALUE (pos 0) ∷ []) place at in
           let room = load.below in
           let found : offset (s.registers reg.VALUE) (pos 0) ≡ target = ap (λ z. offset z (pos 0)) does.value ∙ words.offset_up target 0 (omega (arith, below, less)) ∙ omega arith in
-          let second = sets_by_one code (lw reg.VALUE reg.VALUE (pos 0)) reg.VALUE (bits w) s refl (omega (arith, room)) load.there.0 (rw found (load_word reg.VALUE target (bits w) s (omega (arith, aligned)) here_too)) in
+          let second = sets_by_one code (lw reg.VALUE reg.VALUE (pos 0)) refl reg.VALUE (bits w) s refl (omega (arith, room)) load.there.0 (rw found (load_word reg.VALUE target (bits w) s (omega (arith, aligned)) here_too)) in
           let t = second.0 in
           let sets = second.2 in
           let end = sets.counter in
           let same : SameRegisters m.registers t.registers = same_after (same_leaves refl does) (same_leaves refl sets) in
-          gives_value program form page input code x k w (length (base (slots_here program calls) a) + 3 + 1) t (m.counter + 4 * length (element_code (slots_here program calls) a))
+          gives_value program form page input code x tt k w (length (base (slots_here program calls) a) + 3 + 1) t (m.counter + 4 * length (element_code (slots_here program calls) a))
           (comes_on code (length (base (slots_here program calls) a) + 3) 1 m s t first.1 second.1) same (sets.words ∙ does.words) (omega (arith, end, place, size)) sets.value (small r.depth r.slot (r.start + natural v) w e) x.kept refl
           (straight_end code (element_code (slots_here program calls) a) (coded k) m.counter here.2))
 
@@ -126,14 +126,11 @@ module _ (program : Program) (form : Form) (page limit : ℕ) (input : List ℤ)
         let next : follow t.counter ≡ m.counter + 4 * length (service (pos 2)) = omega (arith, below, place) in
         let asked : t.registers reg.VALUE ≡ natural v = does.kept reg.VALUE refl ∙ here.0 ∙ (index_is v (length input) here.1 index).0 in
         let same = same_replied t (bits z) (same_leaves refl does) in
-        leads_to program form page input code 1 t ran.1 (hears (bits z) (inl (record { there = ran.3; number_is = does.value }, z, ap (slice_get input) asked ∙ found, refl)) (
-          spot,
-          stays refl,
-          exact_same program form page input code x (holds z) k u same does.words x.kept refl
-              (leads_map code (coded k) (Placed program form page input code (holds z) k calls spot.frames u.registers) u.counter
-              (subst (LeadsTo code (coded k)) (sym next) (straight_end code (service (pos 2)) (coded k) m.counter here.2))
-              (λ q g. (refl, fits, g))),
-        ))
+        leads_to program form page input code 1 t ran.1 (hears (bits z) (inl (record { there = ran.3; number_is = does.value }, z, ap (slice_get input) asked ∙ found, refl))
+        (exact_same program form page input code x tt (holds z) tt k u same does.words x.kept refl
+        (leads_map code (coded k) (Placed program form page input code (holds z) k calls spot.frames u.registers) u.counter
+        (subst (LeadsTo code (coded k)) (sym next) (straight_end code (service (pos 2)) (coded k) m.counter here.2))
+        (λ q g. (refl, fits, g)))))
 
     read_traps : (v : ℤ) → is_index v (length input) ≡ false → exact (holds v) (read ∷ k) → placed (holds v) (read ∷ k) → leads (traps kind.Input)
     read_traps v index x here =

@@ -10,7 +10,7 @@ use Rattle.cm_isa.specs.Alu as alu
 use Rattle.cm_isa.specs.Alu.{int, offset}
 use Rattle.cm_isa.specs.Action.{follow}
 use Rattle.cm_isa.specs.Machine.{Machine, Code, InstructionsAt, machine_with}
-use Rattle.cm_isa.specs.Run.{ComesTo}
+use Rattle.cm_gen.specs.Returns.{GoesTo}
 use Rattle.cm_isa.specs.Register.{with_register}
 use Rattle.cm_syntax.specs.declared.stmt.Function.{Function}
 use Rattle.cm_syntax.specs.declared.stmt.Program.{Program}
@@ -26,7 +26,7 @@ use Rattle.cm_gen.specs.Part.{table_word}
 use Rattle.cm_gen.specs.Image.{frame_bytes_of, need_of, inner_code}
 use Rattle.cm_gen.specs.Standing.{StandsAt, HasEntry, IsCompiled}
 use Rattle.cm_gen.specs.Formed.{Within, alone, before, within, Formed}
-use Rattle.cm_gen.specs.StandsFor.{Spot, stays, Placed, ExactAt, Serves, LeadsFrom}
+use Rattle.cm_gen.specs.StandsFor.{Spot, Placed, ExactAt, Serves, LeadsFrom}
 use Rattle.cm_gen.proofs.patterns.StepLaw.{comes_by_one, comes_on, instructions_front, with_register_other}
 use Rattle.cm_gen.proofs.patterns.PrologueLaw.{set_at, tick_runs, bne_passes}
 use Rattle.cm_gen.proofs.patterns.StandingLaw.{IsCodeAt, straight_first}
@@ -37,9 +37,9 @@ use Rattle.cm_gen.proofs.items.StateLaw.{leads_to}
 module _ (program : Program) (form : Form) (page : ℕ) (input : List ℤ) (code : Code) where
   -- a call of a service: the machine comes to its `ecall`
   pub serves_at : (n p : ℕ) (m : Machine) → alu.word (int 0 +ℤ int (cast_unsigned w32 (pos n))) ≡ n → m.registers reg.ZERO ≡ 0 → m.counter ≡ p → p + 4 < 2 ^ 32 → InstructionsAt code p (service (pos n))
-      → let t = machine_with m (with_register m.registers reg.SERVICE n) (p + 4) in ComesTo code 1 m t × Serves program form page input code n t
+      → let t = machine_with m (with_register m.registers reg.SERVICE n) (p + 4) in GoesTo code 1 m t × Serves program form page input code n t
   serves_at n p m value zero_is here room code_is = (
-    set_at code (addi reg.SERVICE reg.ZERO (pos n)) reg.SERVICE n p m here room code_is.0 (ap (λ v. Some (machine_with m (with_register m.registers reg.SERVICE v) (follow m.counter))) (ap (λ z. alu.word (int z +ℤ int (cast_unsigned w32 (pos n)))) zero_is ∙ value)),
+    set_at code (addi reg.SERVICE reg.ZERO (pos n)) refl reg.SERVICE n p m here room code_is.0 (ap (λ v. Some (machine_with m (with_register m.registers reg.SERVICE v) (follow m.counter))) (ap (λ z. alu.word (int z +ℤ int (cast_unsigned w32 (pos n)))) zero_is ∙ value)),
     record { there = code_is.1.0; number_is = refl },
   )
 
@@ -106,38 +106,36 @@ module _ (program : Program) (form : Form) (page limit : ℕ) (input : List ℤ)
       at_entry : Machine
       at_entry = machine_with m m.registers e.entry
 
-      jumped : ComesTo code 1 m at_entry
+      jumped : GoesTo code 1 m at_entry
       jumped =
           let o = pos e.entry -ℤ pos (table_word f) in
-          comes_by_one code (jal reg.ZERO o) m at_entry (subst (λ p. code p (jal reg.ZERO o)) (sym here) e.table.there)
+          comes_by_one code (jal reg.ZERO o) refl m at_entry (subst (λ p. code p (jal reg.ZERO o)) (sym here) e.table.there)
           (jump_to reg.ZERO e.entry o m (ap (λ p. offset p o) here ∙ distance_to (table_word f) e.entry (omega (arith, bound))) e.aligned)
 
       by_left : (left : ℕ) → left < 2 ^ 32 → ExactAt program form page input code spot left (control calls account (entering f ws) k) h m
           → LeadsFrom program form page input code spot left calls h (ticks (control calls account (framing f ws) k) h) m
       by_left zero fits y =
           let z = y.zero_is in
-          let passed = comes_by_one code (bne reg.TICKS reg.ZERO (pos 12)) at_entry _ code_is.0 (bne_passes code at_entry z y.left_is (omega (arith, bound))) in
+          let passed = comes_by_one code (bne reg.TICKS reg.ZERO (pos 12)) refl at_entry _ code_is.0 (bne_passes code at_entry z y.left_is (omega (arith, bound))) in
           let served = serves_at program form page input code 6 (e.entry + 4) (machine_with m m.registers (e.entry + 4)) refl z refl (omega (arith, bound)) (code_is.1.0, (code_is.1.1.0, tt)) in
-          leads_to program form page input code 3 _ (comes_on code 1 2 m at_entry _ jumped (comes_on code 1 1 at_entry _ _ passed served.0)) served.1
+          leads_to program form page input code 3 _ (comes_on code 1 2 m at_entry _ jumped (comes_on code 1 1 at_entry _ _ passed served.0)) (served.1, y.left_is)
       by_left (suc left) fits y =
           let p = e.entry + 16 in
           let r = with_register m.registers reg.TICKS (m.registers reg.TICKS - 1) in
           let t = machine_with m r p in
           let ticked = tick_runs code e.entry at_entry y.zero_is (λ n. omega (arith, n, y.left_is)) (omega (arith, y.left_is, fits)) e.aligned refl (omega (arith, bound)) code_is in
-          leads_to program form page input code 3 t (comes_on code 1 2 m at_entry t jumped ticked) (
-            spot,
-            stays refl,
-            record {
-              frames = y.frames;
-              may_stand = y.may_stand;
-              slots = y.slots;
-              kept = y.kept;
-              own = y.own;
-              zero_is = y.zero_is;
-              low_is = y.low_is;
-              account_is = y.account_is;
-              left_is = omega (arith, y.left_is);
-              pointer_is = y.pointer_is;
-              placed = (0, ((is.function, is.function_is, e, refl), handed_same program page calls spot.frames m.registers r ws (λ q l. with_register_other m.registers reg.TICKS (m.registers reg.TICKS - 1) q (ne_eqb q reg.TICKS (λ same. omega (arith, same, l)))) direct.1, direct.2, direct.3, direct.4));
-            },
-          )
+          leads_to program form page input code 3 t (comes_on code 1 2 m at_entry t jumped ticked)
+          (record {
+            frames = y.frames;
+            may_stand = y.may_stand;
+            slots = y.slots;
+            kept = y.kept;
+            own = y.own;
+            returns_are = y.returns_are;
+            zero_is = y.zero_is;
+            low_is = y.low_is;
+            account_is = y.account_is;
+            left_is = omega (arith, y.left_is);
+            pointer_is = y.pointer_is;
+            placed = (0, ((is.function, is.function_is, e, refl), handed_same program page calls spot.frames m.registers r ws (λ q l. with_register_other m.registers reg.TICKS (m.registers reg.TICKS - 1) q (ne_eqb q reg.TICKS (λ same. omega (arith, same, l)))) direct.1, direct.2, direct.3, direct.4));
+          })

@@ -12,8 +12,8 @@ use Rattle.cm_isa.specs.Operation.{Operation}
 use Rattle.cm_isa.specs.Alu as alu
 use Rattle.cm_isa.specs.Alu.{int, offset}
 use Rattle.cm_isa.specs.Action.{follow}
-use Rattle.cm_isa.specs.Machine.{Machine, Mapped, Code, InstructionsAt, machine_with, writable, IsWritable, Stored}
-use Rattle.cm_isa.specs.Run.{ComesTo}
+use Rattle.cm_isa.specs.Machine.{Machine, Mapped, Code, InstructionsAt, machine_after, machine_with, writable, IsWritable, Stored}
+use Rattle.cm_gen.specs.Returns.{GoesTo}
 use Rattle.cm_isa.specs.Register.{with_register}
 use Rattle.cm_syntax.specs.declared.stmt.Function.{Function}
 use Rattle.cm_syntax.specs.declared.stmt.Program.{Program}
@@ -37,12 +37,12 @@ use Rattle.cm_gen.specs.Expression.{expression_code}
 use Rattle.cm_gen.specs.Standing.{Frame, used, item_code, split_code, loop_of, slots_here, LeadsTo, BehindJumps, StandsAt, StandsThen, form_here, Coded}
 use Rattle.cm_gen.specs.FrameWord.{bits, IsPlace, IsOwnNumber, word_number, word_address, pointer_of, cell_at, HasCell, Holds, Kept, HasOwn}
 use Rattle.cm_gen.specs.Formed.{Runs, Formed}
-use Rattle.cm_gen.specs.StandsFor.{Spot, stays, goes, passed, Placed, ExactAt, stands, ArrivesSync, LeadsFrom}
+use Rattle.cm_gen.specs.StandsFor.{Spot, goes, backs, passed, Placed, ExactAt, turns, ArrivesSync, LeadsFrom}
 use Rattle.cm_gen.proofs.patterns.WordLaw as words
 use Rattle.cm_gen.proofs.patterns.StepLaw.{comes_by_one, comes_on, load_word, instructions_front, instructions_back}
 use Rattle.cm_gen.proofs.patterns.PrologueLaw.{set_at, number_at}
 use Rattle.cm_gen.proofs.patterns.StandingLaw.{leads_map, then_end, then_second, straight_there, straight_front}
-use Rattle.cm_gen.proofs.items.StateLaw.{exact_same, leads_to, leads_on, leads_stuck, coded_of, hand_lasts}
+use Rattle.cm_gen.proofs.items.StateLaw.{plain_backs, exact_same, leads_to, leads_on, leads_stuck, coded_of, hand_lasts}
 use Rattle.cm_gen.proofs.states.FactLaw.{slots_are}
 use Rattle.cm_gen.proofs.frames.FrameWordLaw.{at_before, slots_before, words_before, lengths, kept_lasts, may_stand_low, low_end_below}
 use Rattle.cm_gen.proofs.frames.DeeperLaw.{top_low, deeper_address, deeper_cell, same_row, refers_below}
@@ -62,8 +62,11 @@ module _ (code : Code) where
   pub ends_by : (q p back pointer : ℕ) (r : ℕ → ℕ) (w : ℕ → Stored) (m : Machine) (size : ℕ) → r reg.FP % 4 ≡ 0 → 8 ≤ r reg.FP → r reg.FP < 2 ^ 32 → r reg.ACCOUNT + q < 2 ^ 32
       → w (r reg.FP - 4) ≡ writable back → w (r reg.FP - 8) ≡ writable pointer → back % 4 ≡ 0 → back < 2 ^ 32 → p + 24 < 2 ^ 32
       → InstructionsAt code p ending
-      → ComesTo code size m (record { registers = with_register r reg.HELP q; counter = p; words = w })
-      → ComesTo code (size + 6) m (record { registers = ended_registers q (alu.word (int (r reg.VALUE) +ℤ int (cast_unsigned w32 (pos 0)))) back pointer r; counter = back; words = w })
+      → GoesTo code size m (record { registers = with_register r reg.HELP q; counter = p; words = w })
+      → let result = alu.word (int (r reg.VALUE) +ℤ int (cast_unsigned w32 (pos 0))) in
+      let m5 : Machine = record { registers = ended_registers q result back pointer r; counter = p + 4 + 4 + 4 + 4 + 4; words = w } in
+      let m6 : Machine = record { registers = ended_registers q result back pointer r; counter = back; words = w } in
+      GoesTo code (size + 5) m m5 × code m5.counter (jalr reg.ZERO reg.RA (pos 0)) × (machine_after (jalr reg.ZERO reg.RA (pos 0)) m5 ≡ Some m6)
   ends_by q p back pointer r w m size aligned least fits8 account there_4 there_8 back_4 back_word room code_is number_runs =
       let f = r reg.FP in
       let result = alu.word (int (r reg.VALUE) +ℤ int (cast_unsigned w32 (pos 0))) in
@@ -88,14 +91,13 @@ module _ (code : Code) where
       let eight_4 : (f - 8) % 4 ≡ 0 = omega arith in
       let at_back : offset back (pos 0) ≡ back = words.offset_up back 0 (omega arith) ∙ omega arith in
       let even : back - back % 2 ≡ back = omega arith in
-      let s1 : ComesTo code 1 m0 m1 = set_at code (add reg.ACCOUNT reg.ACCOUNT reg.HELP) reg.ACCOUNT (r reg.ACCOUNT + q) p m0 refl (omega arith) code_is.0 (ap (λ v. Some (machine_with m0 (with_register r0 reg.ACCOUNT v) (follow p))) paid) in
-      let s2 : ComesTo code 1 m1 m2 = set_at code (addi reg.RESULT reg.VALUE (pos 0)) reg.RESULT result (p + 4) m1 refl (omega arith) code_is.1.0 refl in
-      let s3 : ComesTo code 1 m2 m3 = set_at code (lw reg.RA reg.FP (minus 4)) reg.RA back (p + 4 + 4) m2 refl (omega arith) code_is.1.1.0 (rw at_4 (load_word reg.RA (f - 4) back m2 four_4 (own_reads _ back there_4))) in
-      let s4 : ComesTo code 1 m3 m4 = set_at code (addi reg.SP reg.FP (pos 0)) reg.SP f (p + 4 + 4 + 4) m3 refl (omega arith) code_is.1.1.1.0 (ap (λ v. Some (machine_with m3 (with_register r3 reg.SP v) (follow (p + 4 + 4 + 4)))) copied) in
-      let s5 : ComesTo code 1 m4 m5 = set_at code (lw reg.FP reg.FP (minus 8)) reg.FP pointer (p + 4 + 4 + 4 + 4) m4 refl (omega arith) code_is.1.1.1.1.0 (rw at_8 (load_word reg.FP (f - 8) pointer m4 eight_4 (own_reads _ pointer there_8))) in
-      let s6 : ComesTo code 1 m5 m6 = comes_by_one code (jalr reg.ZERO reg.RA (pos 0)) m5 m6 code_is.1.1.1.1.1.0 (rw (at_back, even, back_4) refl) in
-      let six : ComesTo code 6 m0 m6 = comes_on code 1 5 m0 m1 m6 s1 (comes_on code 1 4 m1 m2 m6 s2 (comes_on code 1 3 m2 m3 m6 s3 (comes_on code 1 2 m3 m4 m6 s4 (comes_on code 1 1 m4 m5 m6 s5 s6)))) in
-      comes_on code size 6 m m0 m6 number_runs six
+      let s1 : GoesTo code 1 m0 m1 = set_at code (add reg.ACCOUNT reg.ACCOUNT reg.HELP) refl reg.ACCOUNT (r reg.ACCOUNT + q) p m0 refl (omega arith) code_is.0 (ap (λ v. Some (machine_with m0 (with_register r0 reg.ACCOUNT v) (follow p))) paid) in
+      let s2 : GoesTo code 1 m1 m2 = set_at code (addi reg.RESULT reg.VALUE (pos 0)) refl reg.RESULT result (p + 4) m1 refl (omega arith) code_is.1.0 refl in
+      let s3 : GoesTo code 1 m2 m3 = set_at code (lw reg.RA reg.FP (minus 4)) refl reg.RA back (p + 4 + 4) m2 refl (omega arith) code_is.1.1.0 (rw at_4 (load_word reg.RA (f - 4) back m2 four_4 (own_reads _ back there_4))) in
+      let s4 : GoesTo code 1 m3 m4 = set_at code (addi reg.SP reg.FP (pos 0)) refl reg.SP f (p + 4 + 4 + 4) m3 refl (omega arith) code_is.1.1.1.0 (ap (λ v. Some (machine_with m3 (with_register r3 reg.SP v) (follow (p + 4 + 4 + 4)))) copied) in
+      let s5 : GoesTo code 1 m4 m5 = set_at code (lw reg.FP reg.FP (minus 8)) refl reg.FP pointer (p + 4 + 4 + 4 + 4) m4 refl (omega arith) code_is.1.1.1.1.0 (rw at_8 (load_word reg.FP (f - 8) pointer m4 eight_4 (own_reads _ pointer there_8))) in
+      let five : GoesTo code 5 m0 m5 = comes_on code 1 4 m0 m1 m5 s1 (comes_on code 1 3 m1 m2 m5 s2 (comes_on code 1 2 m2 m3 m5 s3 (comes_on code 1 1 m3 m4 m5 s4 s5))) in
+      (comes_on code size 5 m m0 m5 number_runs five, code_is.1.1.1.1.1.0, rw (at_back, even, back_4) refl)
 
 -- ---- places
 
@@ -222,8 +224,8 @@ module _ (program : Program) (form : Form) (page limit : ℕ) (input : List ℤ)
           let bound = coded_below l calls (F ∷ frames) F.exit l_there in
           let t = machine_with m m.registers F.exit in
           leads_on program form page input code 1 t
-          (comes_by_one code (jal reg.ZERO (pos (4 * suc count))) m t jump.there (jump_to reg.ZERO F.exit (pos (4 * suc count)) m (words.offset_up m.counter (4 * suc count) (omega (arith, bound)) ∙ at_exit) (omega (arith, four, at_exit))))
-          (exact_same program form page input code x hand l t (same_self m.registers) refl (join_kept (exit ∷ k) l calls spot.frames h m.words e x.kept) (join_count (exit ∷ k) l e)
+          (comes_by_one code (jal reg.ZERO (pos (4 * suc count))) refl m t jump.there (jump_to reg.ZERO F.exit (pos (4 * suc count)) m (words.offset_up m.counter (4 * suc count) (omega (arith, bound)) ∙ at_exit) (omega (arith, four, at_exit))))
+          (exact_same program form page input code x no_call hand no_call l t (same_self m.registers) refl (join_kept (exit ∷ k) l calls spot.frames h m.words e x.kept) (join_count (exit ∷ k) l e)
           (0, hand_lasts program form page limit input code hand (exit ∷ k) l calls spot.frames m.registers m.registers m.counter F.exit no_call refl refl here (subst (λ frames. coded l calls frames F.exit) (sym same) l_there)))
 
   -- a body falls off its end
@@ -238,19 +240,19 @@ module _ (program : Program) (form : Form) (page limit : ℕ) (input : List ℤ)
       t : Machine
       t = machine_with m (with_register m.registers reg.VALUE 0) (m.counter + 4)
 
-      runs_on : ComesTo code 1 m t
+      runs_on : GoesTo code 1 m t
       runs_on =
           let b = there.0.below in
           let z = x.zero_is in
-          set_at code (addi reg.VALUE reg.ZERO (pos 0)) reg.VALUE 0 m.counter m refl (omega (arith, b)) there.0.there (rw z refl)
+          set_at code (addi reg.VALUE reg.ZERO (pos 0)) refl reg.VALUE 0 m.counter m refl (omega (arith, b)) there.0.there (rw z refl)
 
       same : SameRegisters m.registers t.registers
       same = record { zero_is = refl; sp = refl; account = refl; ticks = refl; pointer = refl }
 
       by_gives : (gives : Bool) → leads spot left calls h (if gives then silent (control calls account (holds (pos 0)) k) h else silent (control calls account idle k) h) m
-      by_gives true = leads_on program form page input code 1 t runs_on (exact_same program form page input code x (holds (pos 0)) k t same refl x.kept refl
+      by_gives true = leads_on program form page input code 1 t runs_on (exact_same program form page input code x no_call (holds (pos 0)) tt k t same refl x.kept refl
           (leads_map code (coded k calls spot.frames) (placed (holds (pos 0)) k calls spot.frames t.registers) (m.counter + 4) there.1 (λ q c. (refl, omega (arith, ints), c))))
-      by_gives false = leads_on program form page input code 1 t runs_on (exact_same program form page input code x idle k t same refl x.kept refl there.1)
+      by_gives false = leads_on program form page input code 1 t runs_on (exact_same program form page input code x no_call idle tt k t same refl x.kept refl there.1)
 
       by_function : (running : Option (Function ℕ)) → leads spot left calls h (fall_off (control calls account hand (fall ∷ k)) h running k) m
       by_function None = leads_stuck program form page input code
@@ -272,12 +274,12 @@ module _ (program : Program) (form : Form) (page limit : ℕ) (input : List ℤ)
       next : (r : ℕ → ℕ) (p : ℕ) → r reg.VALUE ≡ m.registers reg.VALUE → r reg.RESULT ≡ m.registers reg.RESULT → LeadsTo code (coded k calls spot.frames) p → LeadsTo code (placed hand k calls spot.frames r) p
       next r p value result c = leads_map code (coded k calls spot.frames) (placed hand k calls spot.frames r) p c (λ q c. hand_lasts program form page limit input code hand (join ∷ k) k calls spot.frames m.registers r m.counter q no_call value result here c)
 
-      arrives_as : (own : Form) → form_here program form calls ≡ own → (n : ℕ) (t : Machine) → ComesTo code n m t → ArrivesSync program form page input code own spot left h (control calls account hand k) t
+      arrives_as : (own : Form) → form_here program form calls ≡ own → (n : ℕ) (t : Machine) → GoesTo code n m t → ArrivesSync program form page input code own spot left h (control calls account hand k) t
           → leads spot left calls h (syncs (control calls account hand k)) m
       arrives_as own e n t comes a = leads_to program form page input code n t comes (subst (λ o. ArrivesSync program form page input code o spot left h (control calls account hand k) t) (sym e) a)
 
       by_form : (own : Form) → form_here program form calls ≡ own → leads spot left calls h (syncs (control calls account hand k)) m
-      by_form Serial e = arrives_as Serial e 0 m refl (spot, stays refl, exact_same program form page input code x hand k m (same_self m.registers) refl x.kept refl (next m.registers m.counter refl refl (behind Serial e)))
+      by_form Serial e = arrives_as Serial e 0 m refl (exact_same program form page input code x no_call hand no_call k m (same_self m.registers) refl x.kept refl (next m.registers m.counter refl refl (behind Serial e)))
       by_form Cilk e =
           let code_is = behind Cilk e in
           let b = code_is.0.below in
@@ -285,7 +287,7 @@ module _ (program : Program) (form : Form) (page limit : ℕ) (input : List ℤ)
           let served = serves_at program form page input code 5 m.counter m refl x.zero_is refl (omega (arith, b)) (code_is.0.there, (code_is.1.0.there, tt)) in
           arrives_as Cilk e 1 t served.0 (
             served.1,
-            exact_same program form page input code x hand k (passed t) (record { zero_is = refl; sp = refl; account = refl; ticks = refl; pointer = refl }) refl x.kept refl
+            exact_same program form page input code x no_call hand no_call k (passed t) (record { zero_is = refl; sp = refl; account = refl; ticks = refl; pointer = refl }) refl x.kept refl
                 (next (with_register m.registers reg.SERVICE 5) (m.counter + 4 + 4) refl refl code_is.1.1),
           )
 
@@ -299,10 +301,10 @@ module _ (program : Program) (form : Form) (page limit : ℕ) (input : List ℤ)
   last_law spot left calls account (framing f ws) h m no_call x here = absurd no_call
   last_law spot left calls account (returned None) h m no_call x here =
       let served = serves_at program form page input code 0 0 m refl x.zero_is here.0 (omega arith) (here.1.0.there, (here.1.1.0.there, tt)) in
-      leads_to program form page input code 1 _ served.0 (served.1, x.left_is)
+      leads_to program form page input code 1 _ served.0 (served.1, tt, x.left_is, x.slots)
   last_law spot left calls account (returned (Some v)) h m no_call x here =
       let served = serves_at program form page input code 0 0 m refl x.zero_is here.2.0 (omega arith) (here.2.1.0.there, (here.2.1.1.0.there, tt)) in
-      leads_to program form page input code 1 _ served.0 (served.1, here.0, here.1, x.left_is)
+      leads_to program form page input code 1 _ served.0 (served.1, (here.0, here.1), x.left_is, x.slots)
 
   -- ---- the end of a call
 
@@ -341,15 +343,15 @@ module _ (program : Program) (form : Form) (page limit : ℕ) (input : List ℤ)
       → exact spot left (control calls account hand (end ∷ k)) h m → placed hand (end ∷ k) calls spot.frames m.registers m.counter
       → leads spot left calls h (end_call program page input (control calls account hand (end ∷ k)) h calls k) m
   end_law runs spot left [] account hand k h m no_call formed x here = leads_stuck program form page input code
-  end_law runs spot left (f ∷ calls) account hand k h m no_call formed x here = by_frames spot.frames spot.low x here
+  end_law runs spot left (f ∷ calls) account hand k h m no_call formed x here = by_frames spot.frames spot.low spot.returns x here
     where
       need : ℕ
       need = call_bytes_in page (slice_get program.functions f)
 
-      by_frames : (frames : List Frame) (low : ℕ) → exact (record { frames = frames; low = low }) left (control (f ∷ calls) account hand (end ∷ k)) h m → placed hand (end ∷ k) (f ∷ calls) frames m.registers m.counter
-          → leads (record { frames = frames; low = low }) left (f ∷ calls) h (end_call program page input (control (f ∷ calls) account hand (end ∷ k)) h (f ∷ calls) k) m
-      by_frames [] low y there = absurd y.frames
-      by_frames (F ∷ frames) low y there =
+      by_frames : (frames : List Frame) (low : ℕ) (returns : List ℕ) → exact (record { frames = frames; low = low; returns = returns }) left (control (f ∷ calls) account hand (end ∷ k)) h m → placed hand (end ∷ k) (f ∷ calls) frames m.registers m.counter
+          → leads (record { frames = frames; low = low; returns = returns }) left (f ∷ calls) h (end_call program page input (control (f ∷ calls) account hand (end ∷ k)) h (f ∷ calls) k) m
+      by_frames [] low returns y there = absurd y.frames
+      by_frames (F ∷ frames) low returns y there =
           let c = coded_of program form page limit input code hand (end ∷ k) (f ∷ calls) (F ∷ frames) m.registers m.counter no_call there in
           let A = load_number reg.HELP (pos need) in
           let is = straight_front code (code_of.leave need) (λ q. ⊤) m.counter c.0 in
@@ -374,12 +376,17 @@ module _ (program : Program) (form : Form) (page limit : ℕ) (input : List ℤ)
           let t : Machine = record { registers = ended_registers need result F.back (pointer_of frames) m.registers; counter = F.back; words = m.words } in
           let same = lengths program page calls frames y.frames.3 in
           let L = length calls in
-          leads_to program form page input code (size + 6) t ran (stands (
-            record { frames = frames; low = F.address },
-            goes F refl refl,
-            record {
+          let counted : returns ≡ F.back ∷ backs (end_count k) frames = y.returns_are ∙ plain_backs hand (end_count (end ∷ k)) (F ∷ frames) m.registers no_call in
+          leads_to program form page input code (size + 5) _ ran.0 (turns (record {
+            next = t;
+            step = record { instruction = jalr reg.ZERO reg.RA (pos 0); there = ran.1; effect = ran.2 };
+            spot = record { frames = frames; low = F.address; returns = backs (end_count k) frames };
+            moves = goes F refl refl counted;
+            links = counted;
+            stands = record {
               frames = y.frames.3;
               may_stand = y.frames.0;
+              returns_are = refl;
               slots = below_holds f calls F frames h m.words same (λ d s r deep e. let below = refers_below program page limit (control (f ∷ calls) account hand (end ∷ k)) h d s r formed e in omega (arith, below, deep)) y.slots;
               kept = kept_lasts program page k calls frames (pop_frame h L) h m.words m.words formed.fits.1 y.frames.3 (λ d n word own known. refl)
                   (λ a. sym (same_row program page calls (pop_frame h L) h a (λ s some. at_before (top calls) L absent (h.references (top calls) s) (top_low program page calls some))))
@@ -391,5 +398,5 @@ module _ (program : Program) (form : Form) (page limit : ℕ) (input : List ℤ)
               left_is = y.left_is;
               pointer_is = refl;
               placed = leads_map code (coded k calls frames) (placed (returned (hand_value hand)) k calls frames t.registers) F.back c.3 (λ q z. came_back hand (end ∷ k) k calls (f ∷ calls) frames (F ∷ frames) m.registers t.registers m.counter q no_call refl there z);
-            },
-          ))
+            };
+          }))

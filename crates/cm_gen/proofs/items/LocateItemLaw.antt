@@ -9,7 +9,7 @@ use Rattle.cm_isa.specs.declared.convention.TheConstants as reg
 use Rattle.cm_isa.specs.Alu.{offset}
 use Rattle.cm_isa.specs.Operation.{Operation}
 use Rattle.cm_isa.specs.Machine.{Machine, Code, with_word, writable, reads}
-use Rattle.cm_isa.specs.Run.{ComesTo}
+use Rattle.cm_gen.specs.Returns.{GoesTo}
 use Rattle.cm_syntax.specs.declared.expr.Op.{Op}
 use Rattle.cm_syntax.specs.declared.expr.Expr.{Expr}
 use Rattle.cm_syntax.specs.declared.stmt.Slot.{Slot}
@@ -110,7 +110,7 @@ module _ (program : Program) (form : Form) (page limit : ℕ) (input : List ℤ)
         let sized = straight_length code (finds ++ puts) in
         let placed_at = does.counter in
         let end : m.counter + 4 * length (straight (finds ++ puts)) ≡ t.counter + 4 * length puts = omega (arith, sized, size, placed_at) in
-        let last = puts_temporary program form page input code x (evaluate e ∷ store a (natural v) o ∷ k) 0 (temporaries e 1) reg.VALUE w t room less some same does.words refl does.value
+        let last = puts_temporary program form page input code x tt (evaluate e ∷ store a (natural v) o ∷ k) 0 (temporaries e 1) reg.VALUE w t room less some same does.words refl does.value
         (code_back code finds puts does.counter there)
         (0, subst (Coded program form page code (evaluate e ∷ store a (natural v) o ∷ k) (f ∷ calls) spot.frames) end (parted code (expression_code slots e 1) (straight (store_code slots o)) next _ later))
         (record { row = r; row_is = row; address = with_word_same m.words at w }, kept_temporary program page k f calls spot.frames h m.words 0 (temporaries e 1) w fits.1 x.frames (omega (arith, none)) room less x.kept)
@@ -155,7 +155,7 @@ module _ (program : Program) (form : Form) (page limit : ℕ) (input : List ℤ)
 
     -- a register takes it from its temporary
     takes_target : (q : ℕ) → (q == reg.ZERO) ≡ false → (reg.FP == q) ≡ false → IsCodeAt code m.counter (load_slot q (temporary_offset own_slots 0))
-        → (t : Machine) × ComesTo code (length (load_slot q (temporary_offset own_slots 0))) m t × Sets q target (4 * length (load_slot q (temporary_offset own_slots 0))) m t
+        → (t : Machine) × GoesTo code (length (load_slot q (temporary_offset own_slots 0))) m t × Sets q target (4 * length (load_slot q (temporary_offset own_slots 0))) m t
     takes_target q nonzero other there =
         let at = temporary_at_offset program page f calls spot.frames 0 1 x.frames fits.0.1 (omega arith) in
         let below = there.below in
@@ -168,7 +168,7 @@ module _ (program : Program) (form : Form) (page limit : ℕ) (input : List ℤ)
     -- the store, behind instructions that changed no word
     stores : (base : ℕ) (w : ℤ) (n : Machine) → may_write (h.words r.depth r.slot (r.start + i)) ≡ true → SameRegisters m.registers n.registers → n.words ≡ m.words → n.registers base ≡ target → n.registers reg.VALUE ≡ bits w
         → IsCodeAt code n.counter (sw reg.VALUE base (pos 0) ∷ []) → LeadsTo code next (n.counter + 4)
-        → (t : Machine) × ComesTo code 1 n t × ExactAt program form page input code spot left (control (f ∷ calls) account idle k) (write_word h r.depth r.slot (r.start + i) w) t
+        → (t : Machine) × GoesTo code 1 n t × ExactAt program form page input code spot left (control (f ∷ calls) account idle k) (write_word h r.depth r.slot (r.start + i) w) t
     stores base w n some same words at value there behind =
         let inside : r.start + i < row_words (slice_get (slots_at program (f ∷ calls) r.depth) r.slot) = omega (arith, within, less) in
         let address = is.address i less in
@@ -177,7 +177,7 @@ module _ (program : Program) (form : Form) (page limit : ℕ) (input : List ℤ)
         let t : Machine = record { registers = n.registers; counter = n.counter + 4; words = with_word n.words target (n.registers reg.VALUE) } in (
           t,
           put_runs code reg.VALUE base target old.0 n there.there.0 (omega (arith, below)) at element_aligned element_fits (ap (λ w. w target) words ∙ ap m.words address ∙ old.1),
-          wrote program form page input code x k r.depth r.slot (r.start + i) w t is.live inside same
+          wrote program form page input code x tt k r.depth r.slot (r.start + i) w t is.live inside same
               (ap (λ w. with_word w target (n.registers reg.VALUE)) words ∙ ap (with_word m.words target) value ∙ ap (λ b. with_word m.words b (bits w)) address) fits.1 x.kept.1 refl behind,
         )
 

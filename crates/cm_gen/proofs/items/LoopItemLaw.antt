@@ -1,6 +1,6 @@
 -- The laws of ticks, prints, choices and loops.
 use Rattle.cm_gen.proofs.patterns.LeavesLaw.{SameRegisters, same_self}
-use Rattle.std.proofs.Common.{◌≡◌, ℕ, zero, suc, ◌+◌, ◌-◌, ◌*◌, ◌^◌, ◌<◌, List, [], ◌∷◌, ◌++◌, length, Option, None, Some, refl, sym, subst, arith, inl, inr, length-append}
+use Rattle.std.proofs.Common.{◌≡◌, ℕ, zero, suc, ◌+◌, ◌-◌, ◌*◌, ◌^◌, ◌<◌, List, [], ◌∷◌, ◌++◌, length, Option, None, Some, refl, sym, ◌∙◌, subst, arith, inl, inr, length-append}
 use Rattle.std.specs.Prelude.{Bool, true, false, if◌then◌else◌, ℤ, pos}
 use Rattle.cm_isa.specs.declared.convention.TheConstants as reg
 use Rattle.cm_isa.specs.Bits.{minus}
@@ -25,12 +25,12 @@ use Rattle.cm_gen.specs.Expression.{skip, back_over, expression_code}
 use Rattle.cm_gen.specs.Statement.{alone_of, choice_of, test_code, turn_code, statement_code, statement_size}
 use Rattle.cm_gen.specs.FrameWord.{Kept}
 use Rattle.cm_gen.specs.Standing.{Stands, JumpsTo, LeadsTo, IsTurn, StandsThen, IsBefore, slots_here, form_here, turn_words, loop_of, Coded}
-use Rattle.cm_gen.specs.StandsFor.{Spot, stays, Placed, ExactAt, LeadsFrom, passed}
+use Rattle.cm_gen.specs.StandsFor.{Spot, Placed, ExactAt, LeadsFrom, passed}
 use Rattle.cm_gen.proofs.patterns.StepLaw.{comes_by_one, comes_on, follow_is}
 use Rattle.cm_gen.proofs.patterns.PrologueLaw.{set_at, tick_runs}
 use Rattle.cm_gen.proofs.sizes.SizeLaw.{size-statement}
 use Rattle.cm_gen.proofs.patterns.StandingLaw.{parted, parted_at, then_map, leads_map, then_end, then_second, straight_there, straight_end, before_on}
-use Rattle.cm_gen.proofs.items.StateLaw.{exact_same, leads_to, leads_on, goes_on, with_value, coded_of, hand_lasts}
+use Rattle.cm_gen.proofs.items.StateLaw.{plain_backs, exact_same, leads_to, leads_on, goes_on, with_value, coded_of, hand_lasts}
 use Rattle.cm_gen.proofs.patterns.JumpLaw.{moved, jumps_on, jumps_back, bne_over, bne_next, is_nothing, is_something, then_join, end_place}
 
 module _ (program : Program) (form : Form) (page limit : ℕ) (input : List ℤ) (code : Code) where
@@ -53,9 +53,9 @@ module _ (program : Program) (form : Form) (page limit : ℕ) (input : List ℤ)
         let u : Machine = moved m (m.counter + 4) in
         let v : Machine = machine_with u (with_register m.registers reg.SERVICE 6) (m.counter + 4 + 4) in
         leads_to program form page input code 2 v
-        (comes_on code 1 1 m u v (comes_by_one code (bne reg.TICKS reg.ZERO (pos 12)) m u c.0.there (rw (zero_is, left_is, follows) refl))
-        (set_at code (addi reg.SERVICE reg.ZERO (pos 6)) reg.SERVICE 6 (m.counter + 4) u refl (omega (arith, below)) c.1.0.there (rw zero_is refl)))
-        (record { there = c.1.1.0.there; number_is = refl })
+        (comes_on code 1 1 m u v (comes_by_one code (bne reg.TICKS reg.ZERO (pos 12)) refl m u c.0.there (rw (zero_is, left_is, follows) refl))
+        (set_at code (addi reg.SERVICE reg.ZERO (pos 6)) refl reg.SERVICE 6 (m.counter + 4) u refl (omega (arith, below)) c.1.0.there (rw zero_is refl)))
+        (record { there = c.1.1.0.there; number_is = refl }, left_is)
     tick_by (suc n) few none x here c =
         let left_is = x.left_is in
         let there = straight_there code (bne reg.TICKS reg.ZERO (pos 12)) (service (pos 6) ++ addi reg.TICKS reg.TICKS (minus 1) ∷ []) (coded k) m.counter c in
@@ -64,24 +64,22 @@ module _ (program : Program) (form : Form) (page limit : ℕ) (input : List ℤ)
         let u : Machine = machine_with m r (m.counter + 16) in
         let end = straight_end code tick_code (coded k) m.counter c in
         leads_to program form page input code 2 u
-        (tick_runs code m.counter m x.zero_is (λ e. omega (arith, e, left_is)) (omega (arith, left_is, few)) c.0.aligned refl (omega (arith, below)) there.there) (
-          spot,
-          stays refl,
-          record {
-            frames = x.frames;
-            may_stand = x.may_stand;
-            slots = x.slots;
-            kept = x.kept;
-            own = x.own;
-            zero_is = x.zero_is;
-            low_is = x.low_is;
-            account_is = x.account_is;
-            left_is = omega (arith, left_is);
-            pointer_is = x.pointer_is;
-            placed = leads_map code (coded k) (Placed program form page input code hand k calls spot.frames r) (m.counter + 16) end
-                (λ q g. hand_lasts program form page limit input code hand (tick ∷ k) k calls spot.frames m.registers r m.counter q none refl refl here g);
-          },
-        )
+        (tick_runs code m.counter m x.zero_is (λ e. omega (arith, e, left_is)) (omega (arith, left_is, few)) c.0.aligned refl (omega (arith, below)) there.there)
+        (record {
+          frames = x.frames;
+          may_stand = x.may_stand;
+          slots = x.slots;
+          kept = x.kept;
+          own = x.own;
+          returns_are = x.returns_are ∙ plain_backs hand (end_count k) spot.frames m.registers none ∙ sym (plain_backs hand (end_count k) spot.frames r none);
+          zero_is = x.zero_is;
+          low_is = x.low_is;
+          account_is = x.account_is;
+          left_is = omega (arith, left_is);
+          pointer_is = x.pointer_is;
+          placed = leads_map code (coded k) (Placed program form page input code hand k calls spot.frames r) (m.counter + 16) end
+              (λ q g. hand_lasts program form page limit input code hand (tick ∷ k) k calls spot.frames m.registers r m.counter q none refl refl here g);
+        })
 
   pub tick_law : (spot : Spot) (left : ℕ) (calls : List ℕ) (account : ℕ) (hand : Hand) (k : List Item) (h : Stack) (m : Machine) → left < 2 ^ 32 → IsPlain hand
       → ExactAt program form page input code spot left (control calls account hand (tick ∷ k)) h m
@@ -107,8 +105,8 @@ module _ (program : Program) (form : Form) (page limit : ℕ) (input : List ℤ)
           let zero_is = x.zero_is in
           let same : SameRegisters m.registers r = record { zero_is = refl; sp = refl; account = refl; ticks = refl; pointer = refl } in
           leads_to program form page input code 1 t
-          (set_at code (addi reg.SERVICE reg.ZERO (pos 1)) reg.SERVICE 1 m.counter m refl (omega (arith, below)) c.0.there (rw zero_is refl))
-          (record { there = c.1.0.there; number_is = refl }, here.0, exact_same program form page input code x idle k (passed t) same refl x.kept refl c.1.1, here.1)
+          (set_at code (addi reg.SERVICE reg.ZERO (pos 1)) refl reg.SERVICE 1 m.counter m refl (omega (arith, below)) c.0.there (rw zero_is refl))
+          (record { there = c.1.0.there; number_is = refl }, here.0, exact_same program form page input code x tt idle tt k (passed t) same refl x.kept refl c.1.1, here.1)
 
   -- ---- choices
 
@@ -139,8 +137,8 @@ module _ (program : Program) (form : Form) (page limit : ℕ) (input : List ℤ)
         let below = there.below in
         let e : m.counter + 4 + 4 ≡ m.counter + 8 = omega arith in
         leads_on program form page input code 1 u
-        (comes_by_one code (bne reg.VALUE reg.ZERO (pos 8)) m u there.there (bne_over m x.zero_is (is_something v some here.1 (m.registers reg.VALUE) here.0) there.aligned (omega (arith, below))))
-        (exact_same program form page input code x idle l u (same_self m.registers) refl keeps count (0, subst (stands l) e c))
+        (comes_by_one code (bne reg.VALUE reg.ZERO (pos 8)) refl m u there.there (bne_over m x.zero_is (is_something v some here.1 (m.registers reg.VALUE) here.0) there.aligned (omega (arith, below))))
+        (exact_same program form page input code x tt idle tt l u (same_self m.registers) refl keeps count (0, subst (stands l) e c))
 
     -- it is 0: the jump goes over so many words
     pub goes_past : (i : Item) (l : List Item) (n : ℕ) → is_zero v ≡ true → exact (i ∷ k) → place (i ∷ k) → Kept program page l calls spot.frames h m.words → end_count l ≡ end_count (i ∷ k)
@@ -154,9 +152,9 @@ module _ (program : Program) (form : Form) (page limit : ℕ) (input : List ℤ)
         let aligned = next.aligned in
         let e : m.counter + 4 + 4 + 4 * n ≡ q = omega arith in
         leads_on program form page input code 2 w
-        (comes_on code 1 1 m u w (comes_by_one code (bne reg.VALUE reg.ZERO (pos 8)) m u there.there (bne_next m x.zero_is (is_nothing v none (m.registers reg.VALUE) here.0) (omega (arith, low))))
-        (comes_by_one code (jal reg.ZERO (pos (4 * suc n))) u w next.there (jumps_on (4 * suc n) u (omega (arith, aligned)) (omega (arith, below)))))
-        (exact_same program form page input code x idle l w (same_self m.registers) refl keeps count (subst (LeadsTo code (stands l)) e c))
+        (comes_on code 1 1 m u w (comes_by_one code (bne reg.VALUE reg.ZERO (pos 8)) refl m u there.there (bne_next m x.zero_is (is_nothing v none (m.registers reg.VALUE) here.0) (omega (arith, low))))
+        (comes_by_one code (jal reg.ZERO (pos (4 * suc n))) refl u w next.there (jumps_on (4 * suc n) u (omega (arith, aligned)) (omega (arith, below)))))
+        (exact_same program form page input code x tt idle tt l w (same_self m.registers) refl keeps count (subst (LeadsTo code (stands l)) e c))
 
     -- an `if` without an `else`
     alone_law : (s : Stmt ℕ) (zeroed : Bool) → is_zero v ≡ zeroed → exact (branch s None ∷ k) → place (branch s None ∷ k)
@@ -281,25 +279,25 @@ module _ (program : Program) (form : Form) (page limit : ℕ) (input : List ℤ)
         (λ q g. turn_coded None s b top words n q refl (let e = g.0 in omega (arith, e)) (omega (arith, whole)) before loop g.1)
 
     -- the next turn begins, behind a jump back or none
-    begins : (hand : Hand) (t : Option (Expr ℕ)) (s b : Stmt ℕ) (l : List Item) → ExactAt program form page input code spot left (control calls account hand (turn t s b ∷ k)) h m
+    begins : (hand : Hand) → IsPlain hand → (t : Option (Expr ℕ)) (s b : Stmt ℕ) (l : List Item) → ExactAt program form page input code spot left (control calls account hand (turn t s b ∷ k)) h m
         → Kept program page l calls spot.frames h m.words → end_count l ≡ end_count k
         → (top n : ℕ) → IsTurn code top n m.counter → coded_at l top
         → LeadsFrom program form page input code spot left calls h (silent (control calls account idle l) h) m
-    begins hand t s b l x keeps count top n (inl e) c = goes_on program form page input code x l keeps count (subst (coded_at l) (sym e) c)
-    begins hand t s b l x keeps count top n (inr back) c =
+    begins hand plain t s b l x keeps count top n (inl e) c = goes_on program form page input code x plain l keeps count (subst (coded_at l) (sym e) c)
+    begins hand plain t s b l x keeps count top n (inr back) c =
         let is = back.1 in
         let aligned = back.0.aligned in
         let below = back.0.below in
         leads_on program form page input code 1 (moved m top)
-        (comes_by_one code (jal reg.ZERO (minus (4 * n))) m (moved m top) back.0.there (jumps_back (4 * n) m top is (omega (arith, is, aligned)) (omega (arith, below))))
-        (exact_same program form page input code x idle l (moved m top) (same_self m.registers) refl keeps count (0, c))
+        (comes_by_one code (jal reg.ZERO (minus (4 * n))) refl m (moved m top) back.0.there (jumps_back (4 * n) m top is (omega (arith, is, aligned)) (omega (arith, below))))
+        (exact_same program form page input code x plain idle tt l (moved m top) (same_self m.registers) refl keeps count (0, c))
 
-    turn_by : (hand : Hand) (t : Option (Expr ℕ)) (s b : Stmt ℕ) → ExactAt program form page input code spot left (control calls account hand (turn t s b ∷ k)) h m
+    turn_by : (hand : Hand) → IsPlain hand → (t : Option (Expr ℕ)) (s b : Stmt ℕ) → ExactAt program form page input code spot left (control calls account hand (turn t s b ∷ k)) h m
         → coded_at (turn t s b ∷ k) m.counter
         → LeadsFrom program form page input code spot left calls h (item_step program page input (control calls account hand (turn t s b ∷ k)) h (turn t s b) k) m
-    turn_by hand (Some t) s b x c = begins hand (Some t) s b (evaluate t ∷ test t s b ∷ k) x x.kept refl c.0 (turn_words in_form in_slots c.1 (Some t) s b) c.2 (loop_coded t s b c.0 c.1 c.3 c.4)
-    turn_by hand None s b x c =
-        begins hand None s b (tick ∷ perform b ∷ perform s ∷ turn None s b ∷ k) x x.kept refl c.0 (turn_words in_form in_slots c.1 None s b) c.2 (endless_coded s b c.0 c.1 c.3 c.4)
+    turn_by hand plain (Some t) s b x c = begins hand plain (Some t) s b (evaluate t ∷ test t s b ∷ k) x x.kept refl c.0 (turn_words in_form in_slots c.1 (Some t) s b) c.2 (loop_coded t s b c.0 c.1 c.3 c.4)
+    turn_by hand plain None s b x c =
+        begins hand plain None s b (tick ∷ perform b ∷ perform s ∷ turn None s b ∷ k) x x.kept refl c.0 (turn_words in_form in_slots c.1 None s b) c.2 (endless_coded s b c.0 c.1 c.3 c.4)
 
     -- behind the condition
     test_by : (v : ℤ) (t : Expr ℕ) (s b : Stmt ℕ) (zeroed : Bool) → is_zero v ≡ zeroed
@@ -347,7 +345,7 @@ module _ (program : Program) (form : Form) (page limit : ℕ) (input : List ℤ)
       → Placed program form page input code hand (turn t s b ∷ k) calls spot.frames m.registers m.counter
       → LeadsFrom program form page input code spot left calls h (item_step program page input (control calls account hand (turn t s b ∷ k)) h (turn t s b) k) m
   turn_law t s b spot left calls account hand k h m none x here =
-      turn_by spot left calls account k h m hand t s b x (coded_of program form page limit input code hand (turn t s b ∷ k) calls spot.frames m.registers m.counter none here)
+      turn_by spot left calls account k h m hand none t s b x (coded_of program form page limit input code hand (turn t s b ∷ k) calls spot.frames m.registers m.counter none here)
 
   pub test_law : (t : Expr ℕ) (s b : Stmt ℕ) (spot : Spot) (left : ℕ) (calls : List ℕ) (account : ℕ) (hand : Hand) (k : List Item) (h : Stack) (m : Machine)
       → ExactAt program form page input code spot left (control calls account hand (test t s b ∷ k)) h m

@@ -9,7 +9,7 @@ use Rattle.std.specs.Int.{w32}
 use Rattle.cm_isa.specs.Alu.{bit}
 use Rattle.cm_isa.specs.Action.{follow}
 use Rattle.cm_isa.specs.Machine.{Machine, Code, machine_after, machine_with, writable}
-use Rattle.cm_isa.specs.Run.{ComesTo}
+use Rattle.cm_gen.specs.Returns.{GoesTo}
 use Rattle.cm_isa.specs.Register.{with_register}
 use Rattle.cm_isa.specs.declared.convention.TheConstants as reg
 use Rattle.cm_syntax.specs.declared.expr.Op.{Op}
@@ -96,7 +96,7 @@ module _ (program : Program) (form : Form) (page limit : ℕ) (input : List ℤ)
     prefix_by o a v e x here =
         let at = code_at code (prefix_code o) (coded k) m.counter (prefix_some o a v e) here.2 in
         let ran = prefix_runs code m x.zero_is o a v here.1 here.0 e at in
-        puts_value program form page limit input code spot left calls account (holds a) k h m (prefix o ∷ k) (prefix_code o) v ran.0 ran.1 x ran.2 ran.3 (unary_fits o a v here.1 e) x.kept refl here.2
+        puts_value program form page limit input code spot left calls account (holds a) k h m tt (prefix o ∷ k) (prefix_code o) v ran.0 ran.1 x ran.2 ran.3 (unary_fits o a v here.1 e) x.kept refl here.2
 
     pub prefix_law : (o : Op) → exact hand (prefix o ∷ k) → placed hand (prefix o ∷ k) → leads (item_step program page input (control calls account hand (prefix o ∷ k)) h (prefix o) k)
     prefix_law o x here = with_value program form page input code hand _ x here (λ a x here. by_some program form page input code (unary_value o a) _ (λ v e. prefix_by o a v e x here))
@@ -108,9 +108,9 @@ module _ (program : Program) (form : Form) (page limit : ℕ) (input : List ℤ)
         let below = at.below in
         let v : ℤ = if is_zero a then pos 0 else pos 1 in
         let zero_is = x.zero_is in
-        let ran = sets_by_one code (sltu reg.VALUE reg.ZERO reg.VALUE) reg.VALUE (bits v) m refl (omega (arith, below)) at.there.0
+        let ran = sets_by_one code (sltu reg.VALUE reg.ZERO reg.VALUE) refl reg.VALUE (bits v) m refl (omega (arith, below)) at.there.0
         (rw zero_is (ap (λ w. Some (machine_with m (with_register m.registers reg.VALUE w) (follow m.counter))) (truth_is a (m.registers reg.VALUE) here.1 here.0))) in
-        puts_value program form page limit input code spot left calls account (holds a) k h m (truth ∷ k) truth_code v 1 ran.0 x ran.1 ran.2 (truth_fits (is_zero a)) x.kept refl here.2
+        puts_value program form page limit input code spot left calls account (holds a) k h m tt (truth ∷ k) truth_code v 1 ran.0 x ran.1 ran.2 (truth_fits (is_zero a)) x.kept refl here.2
 
     pub truth_law : exact hand (truth ∷ k) → placed hand (truth ∷ k) → leads (item_step program page input (control calls account hand (truth ∷ k)) h truth k)
     truth_law x here = with_value program form page input code hand _ x here truth_by
@@ -118,10 +118,10 @@ module _ (program : Program) (form : Form) (page limit : ℕ) (input : List ℤ)
     -- ---- `&&` and `||`
 
     -- no instruction but jumps, and on with another rest
-    moves_on : (l j : List Item) (now : Hand) (n q : ℕ) → exact hand l → ComesTo code n m (moved m q) → Kept program page j calls spot.frames h m.words → end_count j ≡ end_count l
+    moves_on : IsPlain hand → (l j : List Item) (now : Hand) → IsPlain now → (n q : ℕ) → exact hand l → GoesTo code n m (moved m q) → Kept program page j calls spot.frames h m.words → end_count j ≡ end_count l
         → Placed program form page input code now j calls spot.frames m.registers q → leads (silent (control calls account now j) h)
-    moves_on l j now n q x comes keeps count here =
-        leads_on program form page input code n (moved m q) comes (exact_same program form page input code x now j (moved m q) (same_self m.registers) refl keeps count (0, here))
+    moves_on plain l j now then_plain n q x comes keeps count here =
+        leads_on program form page input code n (moved m q) comes (exact_same program form page input code x plain now then_plain j (moved m q) (same_self m.registers) refl keeps count (0, here))
 
   module _ (spot : Spot) (left : ℕ) (calls : List ℕ) (account : ℕ) (k : List Item) (h : Stack) (m : Machine) (a : ℤ) (r : Expr ℕ) where
     abbrev right_part : List Part
@@ -137,13 +137,13 @@ module _ (program : Program) (form : Form) (page limit : ℕ) (input : List ℤ)
       leads_here move = LeadsFrom program form page input code spot left calls h move m
 
       -- the right operand comes
-      takes_right : ComesTo code 1 m (moved m (m.counter + 8)) → leads_here (silent (control calls account idle (evaluate r ∷ truth ∷ k)) h)
+      takes_right : GoesTo code 1 m (moved m (m.counter + 8)) → leads_here (silent (control calls account idle (evaluate r ∷ truth ∷ k)) h)
       takes_right comes =
-          moves_on spot left calls account (holds a) k h m l (evaluate r ∷ truth ∷ k) idle 1 (m.counter + 8) x comes keeps count
+          moves_on spot left calls account (holds a) k h m tt l (evaluate r ∷ truth ∷ k) idle tt 1 (m.counter + 8) x comes keeps count
           (parted code right_part (straight truth_code) (Coded program form page code k calls spot.frames) (m.counter + 8) (subst stands place behind))
 
       -- or it is passed over
-      passes_right : ComesTo code 1 m (moved m (m.counter + 4)) → code (m.counter + 4) (jal reg.ZERO (pos (4 * suc (length right_part)))) → m.counter % 4 ≡ 0
+      passes_right : GoesTo code 1 m (moved m (m.counter + 4)) → code (m.counter + 4) (jal reg.ZERO (pos (4 * suc (length right_part)))) → m.counter % 4 ≡ 0
           → leads_here (silent (control calls account (holds a) (truth ∷ k)) h)
       passes_right comes jump aligned =
           let q = p + 4 * length right_part in
@@ -152,7 +152,7 @@ module _ (program : Program) (form : Form) (page limit : ℕ) (input : List ℤ)
           let s = moved m (m.counter + 4) in
           let to : m.counter + 4 + 4 * suc (length right_part) ≡ q = omega (arith, place) in
           let jumps : machine_after (jal reg.ZERO (pos (4 * suc (length right_part)))) s ≡ Some (moved m q) = jumps_on (4 * suc (length right_part)) s (omega (arith, aligned)) (omega (arith, to, below)) ∙ ap (λ n. Some (moved m n)) to in
-          moves_on spot left calls account (holds a) k h m l (truth ∷ k) (holds a) 2 q x (comes_on code 1 1 m s (moved m q) comes (comes_by_one code (jal reg.ZERO (pos (4 * suc (length right_part)))) s (moved m q) jump jumps)) keeps count
+          moves_on spot left calls account (holds a) k h m tt l (truth ∷ k) (holds a) tt 2 q x (comes_on code 1 1 m s (moved m q) comes (comes_by_one code (jal reg.ZERO (pos (4 * suc (length right_part)))) refl s (moved m q) jump jumps)) keeps count
           (value, fits, rest)
 
     pub both_by : (x : ExactAt program form page input code spot left (control calls account (holds a) (both r ∷ k)) h m) → Placed program form page input code (holds a) (both r ∷ k) calls spot.frames m.registers m.counter
@@ -163,11 +163,11 @@ module _ (program : Program) (form : Form) (page limit : ℕ) (input : List ℤ)
         by_zero true is =
             let c = here.2 in let below = c.1.0.below in
             passes_right (both r ∷ k) x x.kept refl here.0 here.1 (m.counter + 4 + 4) (omega arith) c.1.1
-            (comes_by_one code (bne reg.VALUE reg.ZERO (pos 8)) m _ c.0.there (bne_next m x.zero_is (is_nothing a is (m.registers reg.VALUE) here.0) (omega (arith, below)))) c.1.0.there c.0.aligned
+            (comes_by_one code (bne reg.VALUE reg.ZERO (pos 8)) refl m _ c.0.there (bne_next m x.zero_is (is_nothing a is (m.registers reg.VALUE) here.0) (omega (arith, below)))) c.1.0.there c.0.aligned
         by_zero false is =
             let c = here.2 in let below = c.1.0.below in
             takes_right (both r ∷ k) x x.kept refl here.0 here.1 (m.counter + 4 + 4) (omega arith) c.1.1
-            (comes_by_one code (bne reg.VALUE reg.ZERO (pos 8)) m _ c.0.there (bne_over m x.zero_is (is_something a is here.1 (m.registers reg.VALUE) here.0) c.0.aligned (omega (arith, below))))
+            (comes_by_one code (bne reg.VALUE reg.ZERO (pos 8)) refl m _ c.0.there (bne_over m x.zero_is (is_something a is here.1 (m.registers reg.VALUE) here.0) c.0.aligned (omega (arith, below))))
 
     pub either_by : (x : ExactAt program form page input code spot left (control calls account (holds a) (either r ∷ k)) h m) → Placed program form page input code (holds a) (either r ∷ k) calls spot.frames m.registers m.counter
         → LeadsFrom program form page input code spot left calls h (if is_zero a then silent (control calls account idle (evaluate r ∷ truth ∷ k)) h else silent (control calls account (holds a) (truth ∷ k)) h) m
@@ -177,11 +177,11 @@ module _ (program : Program) (form : Form) (page limit : ℕ) (input : List ℤ)
         by_zero false is =
             let c = here.2 in let below = c.1.0.below in
             passes_right (either r ∷ k) x x.kept refl here.0 here.1 (m.counter + 4 + 4) (omega arith) c.1.1
-            (comes_by_one code (beq reg.VALUE reg.ZERO (pos 8)) m _ c.0.there (beq_next m x.zero_is (is_something a is here.1 (m.registers reg.VALUE) here.0) (omega (arith, below)))) c.1.0.there c.0.aligned
+            (comes_by_one code (beq reg.VALUE reg.ZERO (pos 8)) refl m _ c.0.there (beq_next m x.zero_is (is_something a is here.1 (m.registers reg.VALUE) here.0) (omega (arith, below)))) c.1.0.there c.0.aligned
         by_zero true is =
             let c = here.2 in let below = c.1.0.below in
             takes_right (either r ∷ k) x x.kept refl here.0 here.1 (m.counter + 4 + 4) (omega arith) c.1.1
-            (comes_by_one code (beq reg.VALUE reg.ZERO (pos 8)) m _ c.0.there (beq_over m x.zero_is (is_nothing a is (m.registers reg.VALUE) here.0) c.0.aligned (omega (arith, below))))
+            (comes_by_one code (beq reg.VALUE reg.ZERO (pos 8)) refl m _ c.0.there (beq_over m x.zero_is (is_nothing a is (m.registers reg.VALUE) here.0) c.0.aligned (omega (arith, below))))
 
   -- ---- the left operand in its temporary
 
@@ -205,7 +205,7 @@ module _ (program : Program) (form : Form) (page limit : ℕ) (input : List ℤ)
       let place = does.leaves.counter in
       let same : SameRegisters m.registers t.registers = same_leaves refl does.leaves in
       leads_on program form page input code _ t ran.1
-      (exact_with program form page input code x idle (evaluate r ∷ apply o a ∷ k) h t same does.at.base.slots
+      (exact_with program form page input code x tt idle tt (evaluate r ∷ apply o a ∷ k) h t same refl does.at.base.slots
       (does.there ∙ ap writable here.0, here.1, keeps_rest program page code f calls spot.frames k (end_count k) h d count _ _ m t x.frames fits.1 (omega arith) fits.0 less does x.kept)
       does.at.own
       (leads_map code (StandsThen code later rest) (Coded program form page code (evaluate r ∷ apply o a ∷ k) (f ∷ calls) spot.frames) t.counter
@@ -238,7 +238,7 @@ module _ (program : Program) (form : Form) (page limit : ℕ) (input : List ℤ)
       let sets = then_.3 in
       let end = sets.counter in
       let t = then_.1 in
-      gives_value program form page input code x k v (length load + then_.0) t (m.counter + 4 * length (load ++ operator_code o)) (comes_on code (length load) then_.0 m s t ran.1 then_.2)
+      gives_value program form page input code x tt k v (length load + then_.0) t (m.counter + 4 * length (load ++ operator_code o)) (comes_on code (length load) then_.0 m s t ran.1 then_.2)
       (same_after (same_leaves refl does) (same_leaves refl sets)) (sets.words ∙ does.words) (omega (arith, end, place, size)) sets.value (binary_fits o a b v x.kept.1 here.1 e) x.kept.2 refl
       (straight_end code (load ++ operator_code o) rest m.counter here.2))
       (λ e divides_.

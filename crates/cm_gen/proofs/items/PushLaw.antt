@@ -11,7 +11,8 @@ use Rattle.cm_isa.specs.Alu as alu
 use Rattle.cm_isa.specs.Alu.{int}
 use Rattle.cm_isa.specs.Action.{follow}
 use Rattle.cm_isa.specs.Machine.{Machine, Mapped, Code, InstructionsAt, machine_after, machine_with, IsWritable}
-use Rattle.cm_isa.specs.Run.{ComesTo, Extends}
+use Rattle.cm_isa.specs.Run.{Extends}
+use Rattle.cm_gen.specs.Returns.{GoesTo}
 use Rattle.cm_isa.specs.Register.{with_register}
 use Rattle.cm_syntax.specs.declared.stmt.Slot.{Slot}
 use Rattle.cm_syntax.specs.declared.stmt.Item as items
@@ -79,11 +80,11 @@ call_is_small page function is fits = by_mark function.cilk
 
 module _ (program : Program) (form : Form) (page : ℕ) (code : Code) (compiled : IsCompiled program form page code) where
   -- the first of some instructions is known, and so the machine behind it
-  pub after_one : (count : ℕ) (i : Operation) (m n o : Machine) → code m.counter i → machine_after i m ≡ Some n → ComesTo code (suc count) m o → ComesTo code count n o
-  after_one count i m n o there effect (next, step, rest) =
+  pub after_one : (count : ℕ) (i : Operation) (m n o : Machine) → code m.counter i → machine_after i m ≡ Some n → GoesTo code (suc count) m o → GoesTo code count n o
+  after_one count i m n o there effect (next, step, none, rest) =
       let same : step.instruction ≡ i = compiled.one m.counter step.instruction i step.there there in
       let e : Some next ≡ Some n = sym step.effect ∙ ap (λ i. machine_after i m) same ∙ effect in
-      subst (λ q. ComesTo code count q o) (same_Some next n e) rest
+      subst (λ q. GoesTo code count q o) (same_Some next n e) rest
 
 module _ (program : Program) (form : Form) (page limit : ℕ) (input : List ℤ) (code : Code) (runs : Runs program page limit input) (compiled : IsCompiled program form page code)
     (spot : Spot) (left : ℕ) (calls : List ℕ) (account f : ℕ) (ws : List Argument) (k : List Item) (h : Stack) (m : Machine) (function : Function ℕ) (function_is : slice_get program.functions f ≡ Some function) (e : HasEntry form page code f function)
@@ -196,7 +197,7 @@ module _ (program : Program) (form : Form) (page limit : ℕ) (input : List ℤ)
       let n = machine_with m (with_register m.registers reg.HELP need) (p + 4 * length A) in
       let o = machine_with m (with_register m.registers reg.HELP need) (p + 4 * length A + 4) in
       let less' : m.registers reg.ACCOUNT < need = omega (arith, account_is, less) in
-      let passed = comes_by_one code (bgeu reg.ACCOUNT reg.HELP (pos 12)) n o laid.tests.0 (bgeu_passes code n less' (omega (arith, bound))) in
+      let passed = comes_by_one code (bgeu reg.ACCOUNT reg.HELP (pos 12)) refl n o laid.tests.0 (bgeu_passes code n less' (omega (arith, bound))) in
       let served = serves_at program form page input code 9 (p + 4 * length A + 4) o refl zero_is refl (omega (arith, bound)) (laid.tests.1.0, (laid.tests.1.1.0, tt)) in
       leads_to program form page input code (length A + 2) _ (comes_on code (length A) 2 m n _ loaded (comes_on code 1 1 n o _ passed served.0)) (served.1, x.left_is)
 
@@ -243,7 +244,7 @@ module _ (program : Program) (form : Form) (page limit : ℕ) (input : List ℤ)
         ∙ ap (λ c. Some (machine_with (before_frame w) (with_register (with_register r reg.HELP B) reg.SP (sp - B)) c)) next
 
     -- the machine comes to the first store
-    comes_to_store : ComesTo code (length A + 2 + (length N + 1)) m (at_store m.words)
+    comes_to_store : GoesTo code (length A + 2 + (length N + 1)) m (at_store m.words)
     comes_to_store =
         let bound = laid.below in
         let a = small.most in
@@ -254,7 +255,7 @@ module _ (program : Program) (form : Form) (page limit : ℕ) (input : List ℤ)
         let paid = account_runs code need p m zero_is (omega (arith, account_is, fits)) (omega (arith, account_is, enough)) s (omega (arith, four)) here (omega (arith, bound)) laid.numbers laid.tests.0
         (subst (λ q. code q (sub reg.ACCOUNT reg.ACCOUNT reg.HELP)) e1 laid.tests.1.1.1.0) in
         let loaded = number_at code reg.HELP B p1 m1 refl zero_is (omega (arith, a, s)) refl (omega (arith, bound)) laid.bytes in
-        let taken = comes_by_one code (sub reg.SP reg.SP reg.HELP) (before_frame m.words) (at_store m.words) laid.frame.0 (sub_effect m.words) in
+        let taken = comes_by_one code (sub reg.SP reg.SP reg.HELP) refl (before_frame m.words) (at_store m.words) laid.frame.0 (sub_effect m.words) in
         comes_on code (length A + 2) (length N + 1) m m1 (at_store m.words) paid (comes_on code (length N) 1 m1 (before_frame m.words) (at_store m.words) loaded taken)
 
     -- ---- the frame
@@ -314,7 +315,7 @@ module _ (program : Program) (form : Form) (page limit : ℕ) (input : List ℤ)
       m6 : Machine
       m6 = record { registers = framed_registers B r; counter = p3; words = framed_words B r w }
 
-      comes_to_parameters : ComesTo code 5 (at_store w) m6
+      comes_to_parameters : GoesTo code 5 (at_store w) m6
       unfolding m6
       comes_to_parameters =
           let bound = laid.below in
@@ -365,7 +366,7 @@ module _ (program : Program) (form : Form) (page limit : ℕ) (input : List ℤ)
           let pointer : (q == reg.FP) ≡ false = ne_eqb q reg.FP (λ e. omega (arith, e, high)) in
           rw (help, account, stack, pointer) refl
 
-      stored : (t : Machine) × ComesTo code (length P) m6 t × HasStored program page f calls F spot.frames shape h final (suc (end_count k)) K next_fits code ws (length P) m6 t
+      stored : (t : Machine) × GoesTo code (length P) m6 t × HasStored program page f calls F spot.frames shape h final (suc (end_count k)) K next_fits code ws (length P) m6 t
       unfolding m6
       stored =
           let all = ap (λ ps. parameters_code S 0 reg.RESULT ps) all_parameters in
@@ -374,7 +375,7 @@ module _ (program : Program) (form : Form) (page limit : ℕ) (input : List ℤ)
           let many = ap (λ (l : List Operation). length l) all in
           let ran = parameters_run program page f calls F spot.frames shape h final (suc (end_count k)) K next_fits code call.whole function.parameters first ws m6 fit refl
           (handed_same program page calls spot.frames m.registers (framed_registers B r) ws high_kept handed) framed (omega (arith, bound, many)) (subst (λ is. InstructionsAt code p3 is) (sym all) there) in
-          subst (λ (is : List Operation). (t : Machine) × ComesTo code (length is) m6 t × HasStored program page f calls F spot.frames shape h final (suc (end_count k)) K next_fits code ws (length is) m6 t) all ran
+          subst (λ (is : List Operation). (t : Machine) × GoesTo code (length is) m6 t × HasStored program page f calls F spot.frames shape h final (suc (end_count k)) K next_fits code ws (length is) m6 t) all ran
 
       reaches : Reaches program form page input code spot left (control (f ∷ calls) (account - need) idle K) final (at_store w)
       unfolding m6
@@ -383,16 +384,18 @@ module _ (program : Program) (form : Form) (page limit : ℕ) (input : List ℤ)
           let does = stored.2 in record {
             count = 5 + length P;
             last = t;
-            comes_to = comes_on code 5 (length P) (at_store w) m6 t comes_to_parameters stored.1;
+            goes_to = comes_on code 5 (length P) (at_store w) m6 t comes_to_parameters stored.1;
             stands = (
-              record { frames = F ∷ spot.frames; low = sp - B },
-              comes F refl x.low_is,
+              record { frames = F ∷ spot.frames; low = sp - B; returns = spot.returns },
+              comes F refl x.low_is refl,
+              refl,
               record {
                 frames = shape;
                 may_stand = inl refl;
                 slots = does.framed.slots;
                 kept = does.framed.kept;
                 own = does.framed.own;
+                returns_are = x.returns_are;
                 zero_is = does.leaves.kept reg.ZERO refl ∙ zero_is;
                 low_is = does.leaves.kept reg.SP refl;
                 account_is = does.leaves.kept reg.ACCOUNT refl ∙ ap (λ n. n - need) account_is;

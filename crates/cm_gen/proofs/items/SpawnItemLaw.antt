@@ -10,7 +10,7 @@ use Rattle.cm_isa.specs.Alu.{offset}
 use Rattle.cm_isa.specs.Action.{follow}
 use Rattle.cm_isa.specs.Operation.{Operation}
 use Rattle.cm_isa.specs.Machine.{Machine, Mapped, Code, machine_with, Stored}
-use Rattle.cm_isa.specs.Run.{ComesTo}
+use Rattle.cm_gen.specs.Returns.{GoesTo}
 use Rattle.cm_isa.specs.Register.{with_register}
 use Rattle.cm_isa.specs.declared.convention.TheConstants as reg
 use Rattle.cm_gen.proofs.frames.MappedWordLaw.{same_own}
@@ -43,13 +43,13 @@ use Rattle.cm_gen.specs.Statement.{deliver_code, destination_code, enter_code}
 use Rattle.cm_gen.specs.Standing.{Stands, LeadsTo, StandsThen, Frame, IsCompiled, arguments_size, used, slots_here, form_here, Coded}
 use Rattle.cm_gen.specs.FrameWord.{bits, word_number, word_address, pointer_of, reference_address, AreFrames, value_cell, HasCell, Holds, HasTemporary, HasArguments, Kept, HasOwn, slice_value, cell_for}
 use Rattle.cm_gen.specs.Formed.{HasRoom, RestFits, Formed, IsPartOf}
-use Rattle.cm_gen.specs.StandsFor.{Spot, stays, Handed, passed, child_machine, Placed, ExactAt, Serves, destination_address, Spawns, ArrivesSpawn, LeadsFrom}
-use Rattle.cm_gen.proofs.patterns.StepLaw.{comes_by_one, comes_on, follow_is, with_register_other, with_register_same}
+use Rattle.cm_gen.specs.StandsFor.{Spot, enters, backs, Turns, turns, Handed, passed, child_machine, Placed, ExactAt, Serves, destination_address, Spawns, ArrivesSpawn, LeadsFrom}
+use Rattle.cm_gen.proofs.patterns.StepLaw.{comes_on, follow_is, with_register_other, with_register_same}
 use Rattle.cm_gen.proofs.parts.CodeLaw.{straight_append}
 use Rattle.cm_gen.proofs.patterns.PatternLaw.{load_number_runs, load_number_some, service_runs}
 use Rattle.cm_gen.proofs.patterns.LeavesLaw.{Sets, SameRegisters, same_after, same_leaves, Leaves, codes_both, leaves_say}
 use Rattle.cm_gen.proofs.patterns.StandingLaw.{then_below, straight_first, straight_end, IsCodeAt, code_at, code_front, code_back}
-use Rattle.cm_gen.proofs.items.StateLaw.{exact_with, exact_same, leads_to, leads_on, by_held, coded_of}
+use Rattle.cm_gen.proofs.items.StateLaw.{plain_backs, exact_with, leads_to, by_held, coded_of}
 use Rattle.cm_gen.proofs.frames.FrameWordLaw.{slots_top, temporary_mapped}
 use Rattle.cm_gen.proofs.states.FactLaw.{opened, some_end, slots_are}
 use Rattle.cm_gen.proofs.patterns.BaseLaw.{load_address_runs, slot_offset_is}
@@ -83,7 +83,7 @@ module _ (program : Program) (page : ℕ) (code : Code) (f : ℕ) (calls : List 
 
   pub hand_over_runs : (count j r ends most : ℕ) (m : Machine) → AreFrames program page (f ∷ calls) frames → m.registers reg.FP ≡ pointer_of frames → HasOwn program page ends (f ∷ calls) frames m.words → 0 < ends
       → HasRoom program page (f ∷ calls) most → j + count ≤ most → reg.RESULT ≤ r → IsCodeAt code m.counter (hand_over (slots_here program (f ∷ calls)) j r count)
-      → let size = length (hand_over (slots_here program (f ∷ calls)) j r count) in (t : Machine) × ComesTo code size m t × HandsOver j r count (4 * size) m t
+      → let size = length (hand_over (slots_here program (f ∷ calls)) j r count) in (t : Machine) × GoesTo code size m t × HandsOver j r count (4 * size) m t
   hand_over_runs zero j r ends most m shape pointer own some room few high here =
       (m, refl, record { counter = omega arith; value = λ n v less. absurd (omega (arith, less)); kept = λ q less. refl; words = refl })
   hand_over_runs (suc count) j r ends most m shape pointer own some room few high here =
@@ -175,7 +175,7 @@ module _ (program : Program) (form : Form) (page limit : ℕ) (input : List ℤ)
     Over ws bytes t = Leaves (λ q. nat_le reg.RESULT q) (λ t. Handed program page (f ∷ calls) spot.frames t ws) (λ w. w) bytes m t
 
     over_by : (u : Purpose) (g : ℕ) (ws : List Argument) (hand : Hand) (most : ℕ) → exact hand (arguments u g ws end_of-Arg ∷ k) m → HasRoom program page (f ∷ calls) most → used k + arguments_size ws ≤ most → 0 < end_count k
-        → IsCodeAt code m.counter (hands ws) → (t : Machine) × ComesTo code (length (hands ws)) m t × Over ws (4 * length (hands ws)) t
+        → IsCodeAt code m.counter (hands ws) → (t : Machine) × GoesTo code (length (hands ws)) m t × Over ws (4 * length (hands ws)) t
     over_by u g ws hand most x room few some here =
         let ran = hand_over_runs program page code f calls spot.frames (arguments_size ws) (used k) reg.RESULT (end_count k) most m x.frames x.pointer_is x.own some room few (omega arith) here in
         let does = ran.2 in
@@ -184,11 +184,11 @@ module _ (program : Program) (form : Form) (page limit : ℕ) (input : List ℤ)
     -- ---- a call
 
     -- From behind the arguments a call jumps to the function's word in the table; it comes back to behind its instruction.
-    entered : (u : Purpose) (g : ℕ) (ws : List Argument) (hand : Hand) (function : Function ℕ) (l : List Item) (bytes : ℕ) (t : Machine) → slice_get program.functions g ≡ Some function
+    entered : (u : Purpose) (g : ℕ) (ws : List Argument) (hand : Hand) → IsPlain hand → (function : Function ℕ) (l : List Item) (bytes : ℕ) (t : Machine) → slice_get program.functions g ≡ Some function
         → exact hand (arguments u g ws end_of-Arg ∷ k) m → Over ws bytes t → Stands code t.counter (placed t.counter (call g)) → LeadsTo code (coded l) (t.counter + 4)
         → Kept program page l (f ∷ calls) spot.frames h m.words → end_count l ≡ end_count k
-        → (v : Machine) × ComesTo code 1 t v × exact (entering g ws) l v
-    entered u g ws hand function l bytes t is x over there next keeps count =
+        → Turns program form page input code spot left (control (f ∷ calls) account (entering g ws) l) h t
+    entered u g ws hand plain function l bytes t is x over there next keeps count =
         let e = compiled.functions g function is in
         let low = e.table.below in
         let a = table_word g in
@@ -199,43 +199,61 @@ module _ (program : Program) (form : Form) (page limit : ℕ) (input : List ℤ)
         let back : v.registers reg.RA ≡ t.counter + 4 = with_register_same t.registers reg.RA (follow t.counter) refl ∙ follow_is t.counter (omega (arith, below)) in
         let other : (q : ℕ) → (q == reg.RA) ≡ false → v.registers q ≡ t.registers q = λ q differ. with_register_other t.registers reg.RA (follow t.counter) q differ in
         let same : SameRegisters t.registers v.registers = record { zero_is = other reg.ZERO refl; sp = other reg.SP refl; account = other reg.ACCOUNT refl; ticks = other reg.TICKS refl; pointer = other reg.FP refl } in
-        let whole : a % 4 ≡ 0 = omega arith in (
-          v,
-          comes_by_one code (jal reg.RA o) t v there.there (jump_to reg.RA a o t (distance_to t.counter a (omega (arith, low))) whole),
-          exact_same program form page input code x (entering g ws) l v (same_after (same_leaves refl over) same) over.words keeps count (
-            0,
-            (
-              refl,
-              handed_same program page (f ∷ calls) spot.frames t.registers v.registers ws (λ q high. other q (ne_eqb q reg.RA (λ e. omega (arith, e, high)))) over.value,
-              ap (λ p. p % 4) back ∙ omega (arith, aligned),
-              subst (λ p. p < 2 ^ 30) (sym back) (omega (arith, below)),
-              subst (LeadsTo code (coded l)) (sym back) next,
-            ),
-          ),
-        )
+        let whole : a % 4 ≡ 0 = omega arith in
+        let all : SameRegisters m.registers v.registers = same_after (same_leaves refl over) same in
+        let counted : spot.returns ≡ backs (end_count l) spot.frames = x.returns_are ∙ plain_backs hand (end_count k) spot.frames m.registers plain ∙ ap (λ n. backs n spot.frames) (sym count) in
+        record {
+          next = v;
+          step = record { instruction = jal reg.RA o; there = there.there; effect = jump_to reg.RA a o t (distance_to t.counter a (omega (arith, low))) whole };
+          spot = record { frames = spot.frames; low = spot.low; returns = (t.counter + 4) ∷ spot.returns };
+          moves = enters (t.counter + 4) refl;
+          links = refl;
+          stands = record {
+            frames = x.frames;
+            may_stand = x.may_stand;
+            slots = subst (λ w. Holds program page (f ∷ calls) spot.frames h w) (sym over.words) x.slots;
+            kept = subst (λ w. Kept program page l (f ∷ calls) spot.frames h w) (sym over.words) keeps;
+            own = subst (λ n. HasOwn program page n (f ∷ calls) spot.frames v.words) (sym count) (subst (λ w. HasOwn program page (end_count k) (f ∷ calls) spot.frames w) (sym over.words) x.own);
+            returns_are = ap (λ p. p ∷ spot.returns) (sym back) ∙ ap (λ later. v.registers reg.RA ∷ later) counted;
+            zero_is = all.zero_is ∙ x.zero_is;
+            low_is = all.sp ∙ x.low_is;
+            account_is = all.account ∙ x.account_is;
+            left_is = all.ticks ∙ x.left_is;
+            pointer_is = all.pointer ∙ x.pointer_is;
+            placed = (
+              0,
+              (
+                refl,
+                handed_same program page (f ∷ calls) spot.frames t.registers v.registers ws (λ q high. other q (ne_eqb q reg.RA (λ e. omega (arith, e, high)))) over.value,
+                ap (λ p. p % 4) back ∙ omega (arith, aligned),
+                subst (λ p. p < 2 ^ 30) (sym back) (omega (arith, below)),
+                subst (LeadsTo code (coded l)) (sym back) next,
+              ),
+            );
+          };
+        }
 
     -- the arguments, and then the call
-    calls_by : (u : Purpose) (g : ℕ) (ws : List Argument) (hand : Hand) (function : Function ℕ) (l : List Item) (more : List Part) (most : ℕ) → slice_get program.functions g ≡ Some function
+    calls_by : (u : Purpose) (g : ℕ) (ws : List Argument) (hand : Hand) → IsPlain hand → (function : Function ℕ) (l : List Item) (more : List Part) (most : ℕ) → slice_get program.functions g ≡ Some function
         → exact hand (arguments u g ws end_of-Arg ∷ k) m → HasRoom program page (f ∷ calls) most → used k + arguments_size ws ≤ most → 0 < end_count k
         → StandsThen code (straight (hands ws) ++ (call g ∷ more)) (coded k) m.counter → ((p : ℕ) → StandsThen code more (coded k) p → LeadsTo code (coded l) p)
         → Kept program page l (f ∷ calls) spot.frames h m.words → end_count l ≡ end_count k
-        → (v : Machine) × ComesTo code (length (hands ws) + 1) m v × exact (entering g ws) l v
-    calls_by u g ws hand function l more most is x room few some c next keeps count =
+        → (t : Machine) × GoesTo code (length (hands ws)) m t × Turns program form page input code spot left (control (f ∷ calls) account (entering g ws) l) h t
+    calls_by u g ws hand plain function l more most is x room few some c next keeps count =
         let both = code_before code (hands ws) (call g) more (coded k) m.counter c in
         let ran = over_by u g ws hand most x room few some both.0 in
         let t = ran.0 in
         let over = ran.2 in
         let here = subst (StandsThen code (call g ∷ more) (coded k)) (sym over.counter) both.1 in
-        let on = entered u g ws hand function l _ t is x over here.0 (next (t.counter + 4) here.1) keeps count in
-        (on.0, comes_on code (length (hands ws)) 1 m t on.0 ran.1 on.1, on.2)
+        (t, ran.1, entered u g ws hand plain function l _ t is x over here.0 (next (t.counter + 4) here.1) keeps count)
 
-    called_by : (g : ℕ) (ws : List Argument) (hand : Hand) (function : Function ℕ) (own : Form) (most : ℕ) → slice_get program.functions g ≡ Some function
+    called_by : (g : ℕ) (ws : List Argument) (hand : Hand) → IsPlain hand → (function : Function ℕ) (own : Form) (most : ℕ) → slice_get program.functions g ≡ Some function
         → exact hand (arguments called g ws end_of-Arg ∷ k) m → HasRoom program page (f ∷ calls) most → used k + arguments_size ws ≤ most → 0 < end_count k
         → StandsThen code (straight (hands ws) ++ enter_code own slots called g) (coded k) m.counter
         → LeadsFrom program form page input code spot left (f ∷ calls) h (silent (control (f ∷ calls) account (entering g ws) k) h) m
-    called_by g ws hand function own most is x room few some c =
-        let on = calls_by called g ws hand function k [] most is x room few some (by_form own c) (λ p c. c) x.kept.1 refl in
-        leads_on program form page input code _ on.0 on.1 on.2
+    called_by g ws hand plain function own most is x room few some c =
+        let on = calls_by called g ws hand plain function k [] most is x room few some (by_form own c) (λ p c. c) x.kept.1 refl in
+        leads_to program form page input code _ on.0 on.1 (turns on.2)
       where
         by_form : (own : Form) → StandsThen code (straight (hands ws) ++ enter_code own slots called g) (coded k) m.counter → StandsThen code (straight (hands ws) ++ (call g ∷ [])) (coded k) m.counter
         by_form Serial c = c
@@ -248,23 +266,23 @@ module _ (program : Program) (form : Form) (page limit : ℕ) (input : List ℤ)
     deliver_coded None p c = c
     deliver_coded (Some x) p c = c
 
-    serial_by : (x : Option ℕ) (g : ℕ) (ws : List Argument) (hand : Hand) (function : Function ℕ) (most : ℕ) → slice_get program.functions g ≡ Some function → form_here program form (f ∷ calls) ≡ Serial
+    serial_by : (x : Option ℕ) (g : ℕ) (ws : List Argument) (hand : Hand) → IsPlain hand → (function : Function ℕ) (most : ℕ) → slice_get program.functions g ≡ Some function → form_here program form (f ∷ calls) ≡ Serial
         → exact hand (arguments (spawned x) g ws end_of-Arg ∷ k) m → HasRoom program page (f ∷ calls) most → used k + arguments_size ws ≤ most → 0 < end_count k
         → StandsThen code (straight (hands ws) ++ enter_code Serial slots (spawned x) g) (coded k) m.counter
         → LeadsFrom program form page input code spot left (f ∷ calls) h (spawn_call (control (f ∷ calls) account hand (arguments (spawned x) g ws end_of-Arg ∷ k)) h g ws (destination_at (length calls) x) k) m
-    serial_by x g ws hand function most is own y room few some c =
+    serial_by x g ws hand plain function most is own y room few some c =
         let to = destination_at (length calls) x in
-        let on = calls_by (spawned x) g ws hand function (deliver to ∷ k) (straight (deliver_code slots x)) most is y room few some c (λ p c. (0, deliver_coded x p c)) y.kept.1 refl in
+        let on = calls_by (spawned x) g ws hand plain function (deliver to ∷ k) (straight (deliver_code slots x)) most is y room few some c (λ p c. (0, deliver_coded x p c)) y.kept.1 refl in
         leads_to program form page input code _ on.0 on.1
         (subst (λ own. ArrivesSpawn program form page input code own spot left h (control (f ∷ calls) account (entering g ws) []) (lent_stack h to ws) to (control (f ∷ calls) account idle k) (kept_stack h to ws) on.0) (sym own)
-        (spot, stays refl, on.2))
+        on.2)
 
     -- ---- a spawn at its service
 
     -- behind the arguments: LEFT takes the address of the destination, or 0
     destination_runs : (x : Option ℕ) (n : Machine) → AreFrames program page (f ∷ calls) spot.frames → n.registers reg.ZERO ≡ 0 → n.registers reg.FP ≡ pointer_of spot.frames → FitsDestination slots x
         → IsCodeAt code n.counter (destination_code slots x)
-        → (t : Machine) × ComesTo code (length (destination_code slots x)) n t
+        → (t : Machine) × GoesTo code (length (destination_code slots x)) n t
         × Sets reg.LEFT (destination_address program form page input code (f ∷ calls) spot.frames (destination_at (length calls) x)) (4 * length (destination_code slots x)) n t
     destination_runs None n shape zero_is pointer fits here =
         let below = here.below in load_number_runs code reg.LEFT (pos 0) n refl zero_is (natural_fits 0 (omega arith)) (omega (arith, below)) here.there
@@ -292,7 +310,7 @@ module _ (program : Program) (form : Form) (page limit : ℕ) (input : List ℤ)
 
     spawns_runs : (x : Option ℕ) (g : ℕ) (ws : List Argument) (bytes : ℕ) (t : Machine) → AreFrames program page (f ∷ calls) spot.frames → t.registers reg.ZERO ≡ 0 → t.registers reg.FP ≡ pointer_of spot.frames → FitsDestination slots x
         → table_word g < 2 ^ 30 → arguments_size ws ≤ 8 → Over ws bytes t → IsCodeAt code t.counter (spawning x g)
-        → (steps : ℕ) × (v : Machine) × ComesTo code steps t v × AtSpawn x g ws (bytes + 4 * length (spawning x g)) v
+        → (steps : ℕ) × (v : Machine) × GoesTo code steps t v × AtSpawn x g ws (bytes + 4 * length (spawning x g)) v
     spawns_runs x g ws bytes t shape zero_is pointer fits small few over here =
         let a = load_number reg.VALUE (pos (table_word g)) in
         let b = destination_code slots x in
@@ -333,11 +351,11 @@ module _ (program : Program) (form : Form) (page limit : ℕ) (input : List ℤ)
         ended p n t s u v a b all two e f g h i j = omega (arith, e, f, g, h, i, j)
 
     -- what is said of that machine
-    spawns_at : (x : Option ℕ) (g : ℕ) (ws : List Argument) (hand : Hand) (bytes : ℕ) (t : Machine) → exact hand (arguments (spawned x) g ws end_of-Arg ∷ k) m → RestFits program page k (f ∷ calls) → arguments_size ws ≤ 8
+    spawns_at : (x : Option ℕ) (g : ℕ) (ws : List Argument) (hand : Hand) → IsPlain hand → (bytes : ℕ) (t : Machine) → exact hand (arguments (spawned x) g ws end_of-Arg ∷ k) m → RestFits program page k (f ∷ calls) → arguments_size ws ≤ 8
         → AtSpawn x g ws bytes t → LeadsTo code (coded k) (m.counter + bytes)
         → let to = destination_at (length calls) x in
         Spawns program form page input code spot left (control (f ∷ calls) account (entering g ws) []) (lent_stack h to ws) to (control (f ∷ calls) account idle k) (kept_stack h to ws) t
-    spawns_at x g ws hand bytes t y fits few at next =
+    spawns_at x g ws hand plain bytes t y fits few at next =
         let to = destination_at (length calls) x in record {
           serves = at.serves;
           destination = at.destination;
@@ -347,6 +365,7 @@ module _ (program : Program) (form : Form) (page limit : ℕ) (input : List ℤ)
             slots = subst (λ w. Holds program page (f ∷ calls) spot.frames (lent_stack h to ws) w) (sym at.words) (holds_lent program page (f ∷ calls) spot.frames h to ws m.words y.slots);
             kept = tt;
             own = λ d n deep last some most number. absurd (omega (arith, deep, last));
+            returns_are = refl;
             zero_is = at.same.zero_is ∙ y.zero_is;
             low_is = at.same.sp ∙ y.low_is;
             account_is = at.same.account ∙ y.account_is;
@@ -363,19 +382,19 @@ module _ (program : Program) (form : Form) (page limit : ℕ) (input : List ℤ)
               ),
             );
           };
-          goes_on = exact_with program form page input code y idle k (kept_stack h to ws) (passed t) at.same
+          goes_on = exact_with program form page input code y plain idle tt k (kept_stack h to ws) (passed t) at.same refl
               (subst (λ w. Holds program page (f ∷ calls) spot.frames (kept_stack h to ws) w) (sym at.words) (holds_kept program page (f ∷ calls) spot.frames h to ws m.words y.slots))
               (subst (λ w. Kept program page k (f ∷ calls) spot.frames (kept_stack h to ws) w) (sym at.words) (write.kept_stack program page k (f ∷ calls) spot.frames h (kept_stack h to ws) m.words fits y.frames refl y.kept.1))
               (subst (λ w. HasOwn program page (end_count k) (f ∷ calls) spot.frames w) (sym at.words) y.own)
               (subst (LeadsTo code (coded k)) (sym at.counter) next);
         }
 
-    cilk_by : (x : Option ℕ) (g : ℕ) (ws : List Argument) (hand : Hand) (function : Function ℕ) (most : ℕ) → slice_get program.functions g ≡ Some function → form_here program form (f ∷ calls) ≡ Cilk
+    cilk_by : (x : Option ℕ) (g : ℕ) (ws : List Argument) (hand : Hand) → IsPlain hand → (function : Function ℕ) (most : ℕ) → slice_get program.functions g ≡ Some function → form_here program form (f ∷ calls) ≡ Cilk
         → FitsDestination slots x → RestFits program page k (f ∷ calls) → arguments_size ws ≤ 8
         → exact hand (arguments (spawned x) g ws end_of-Arg ∷ k) m → HasRoom program page (f ∷ calls) most → used k + arguments_size ws ≤ most → 0 < end_count k
         → StandsThen code (straight (hands ws) ++ enter_code Cilk slots (spawned x) g) (coded k) m.counter
         → LeadsFrom program form page input code spot left (f ∷ calls) h (spawn_call (control (f ∷ calls) account hand (arguments (spawned x) g ws end_of-Arg ∷ k)) h g ws (destination_at (length calls) x) k) m
-    cilk_by x g ws hand function most is own kind fits short y room few some c =
+    cilk_by x g ws hand plain function most is own kind fits short y room few some c =
         let to = destination_at (length calls) x in
         let a = hands ws in
         let b = spawning x g in
@@ -394,27 +413,27 @@ module _ (program : Program) (form : Form) (page limit : ℕ) (input : List ℤ)
         let bytes : 4 * length all ≡ 4 * length a + 4 * length b = omega (arith, size) in
         leads_to program form page input code (length a + on.0) on.1 (comes_on code (length a) on.0 m t on.1 ran.1 on.2)
         (subst (λ own. ArrivesSpawn program form page input code own spot left h (control (f ∷ calls) account (entering g ws) []) (lent_stack h to ws) to (control (f ∷ calls) account idle k) (kept_stack h to ws) on.1) (sym own)
-        (spawns_at x g ws hand (4 * length a + 4 * length b) on.1 y fits short on.3 (subst (λ n. LeadsTo code (coded k) (m.counter + n)) bytes (straight_end code all (coded k) m.counter c))))
+        (spawns_at x g ws hand plain (4 * length a + 4 * length b) on.1 y fits short on.3 (subst (λ n. LeadsTo code (coded k) (m.counter + n)) bytes (straight_end code all (coded k) m.counter c))))
 
-    spawned_by : (x : Option ℕ) (g : ℕ) (ws : List Argument) (hand : Hand) (function : Function ℕ) (own : Form) (most : ℕ) → slice_get program.functions g ≡ Some function → form_here program form (f ∷ calls) ≡ own
+    spawned_by : (x : Option ℕ) (g : ℕ) (ws : List Argument) (hand : Hand) → IsPlain hand → (function : Function ℕ) (own : Form) (most : ℕ) → slice_get program.functions g ≡ Some function → form_here program form (f ∷ calls) ≡ own
         → FitsDestination slots x → RestFits program page k (f ∷ calls) → arguments_size ws ≤ 8
         → exact hand (arguments (spawned x) g ws end_of-Arg ∷ k) m → HasRoom program page (f ∷ calls) most → used k + arguments_size ws ≤ most → 0 < end_count k
         → StandsThen code (straight (hands ws) ++ enter_code own slots (spawned x) g) (coded k) m.counter
         → LeadsFrom program form page input code spot left (f ∷ calls) h (spawn_call (control (f ∷ calls) account hand (arguments (spawned x) g ws end_of-Arg ∷ k)) h g ws (destination_at (length calls) x) k) m
-    spawned_by x g ws hand function Serial most is own kind fits short y room few some c = serial_by x g ws hand function most is own y room few some c
-    spawned_by x g ws hand function Cilk most is own kind fits short y room few some c = cilk_by x g ws hand function most is own kind fits short y room few some c
+    spawned_by x g ws hand plain function Serial most is own kind fits short y room few some c = serial_by x g ws hand plain function most is own y room few some c
+    spawned_by x g ws hand plain function Cilk most is own kind fits short y room few some c = cilk_by x g ws hand plain function most is own kind fits short y room few some c
 
     -- all arguments are known: by what they are for
-    enter_by : (u : Purpose) (g : ℕ) (ws : List Argument) (hand : Hand) (function : Function ℕ) (most : ℕ) → slice_get program.functions g ≡ Some function
+    enter_by : (u : Purpose) (g : ℕ) (ws : List Argument) (hand : Hand) → IsPlain hand → (function : Function ℕ) (most : ℕ) → slice_get program.functions g ≡ Some function
         → FitsPurpose slots u → RestFits program page k (f ∷ calls) → arguments_size ws ≤ 8
         → exact hand (arguments u g ws end_of-Arg ∷ k) m → HasRoom program page (f ∷ calls) most → used k + arguments_size ws ≤ most → 0 < end_count k
         → StandsThen code (straight (hands ws) ++ enter_code (form_here program form (f ∷ calls)) slots u g) (coded k) m.counter
         → LeadsFrom program form page input code spot left (f ∷ calls) h (enter_call (control (f ∷ calls) account hand (arguments u g ws end_of-Arg ∷ k)) h u g ws k) m
-    enter_by called g ws hand function most is kind fits short y room few some c = called_by g ws hand function (form_here program form (f ∷ calls)) most is y room few some c
-    enter_by (spawned None) g ws hand function most is kind fits short y room few some c =
-        spawned_by None g ws hand function (form_here program form (f ∷ calls)) most is refl kind fits short y room few some c
-    enter_by (spawned (Some x)) g ws hand function most is kind fits short y room few some c =
-        by_held program form page input code (h.words (length calls) x 0) _ (λ held. spawned_by (Some x) g ws hand function (form_here program form (f ∷ calls)) most is refl kind fits short y room few some c)
+    enter_by called g ws hand plain function most is kind fits short y room few some c = called_by g ws hand plain function (form_here program form (f ∷ calls)) most is y room few some c
+    enter_by (spawned None) g ws hand plain function most is kind fits short y room few some c =
+        spawned_by None g ws hand plain function (form_here program form (f ∷ calls)) most is refl kind fits short y room few some c
+    enter_by (spawned (Some x)) g ws hand plain function most is kind fits short y room few some c =
+        by_held program form page input code (h.words (length calls) x 0) _ (λ held. spawned_by (Some x) g ws hand plain function (form_here program form (f ∷ calls)) most is refl kind fits short y room few some c)
 
   -- ---- the law
 
@@ -436,7 +455,7 @@ module _ (program : Program) (form : Form) (page limit : ℕ) (input : List ℤ)
       let o = opened program page limit (f ∷ calls) account hand (arguments u g ws end_of-Arg) k h none tt formed in
       let callee = some_function (slice_get program.functions g) o.inner.1.0 in
       let fit = subst (λ found. FitParameters program o.whole (o.f ∷ o.callers) ws (parameters_in found)) callee.1 o.inner.1.1 in
-      enter_by spot left f calls account k h m u g ws hand callee.0 _ callee.1
+      enter_by spot left f calls account k h m u g ws hand none callee.0 _ callee.1
       (subst (λ l. FitsPurpose l u) (sym (slots_are program page limit o)) o.inner.0) formed.fits.1 (arguments_few program sound g callee.0 callee.1 o.whole (o.f ∷ o.callers) ws fit) x formed.fits.0.0 (omega (arith, most))
       (some_end program page limit (f ∷ calls) account hand (arguments u g ws end_of-Arg) k h none tt formed)
       (coded_of program form page limit input code hand (arguments u g ws end_of-Arg ∷ k) (f ∷ calls) spot.frames m.registers m.counter none here)

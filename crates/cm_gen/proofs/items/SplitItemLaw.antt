@@ -10,7 +10,7 @@ use Rattle.cm_isa.specs.Alu.{int, word, offset}
 use Rattle.cm_isa.specs.Action.{follow}
 use Rattle.cm_isa.specs.Operation.{Operation}
 use Rattle.cm_isa.specs.Machine.{Machine, Mapped, Code, machine_after, machine_with, with_word, IsWritable}
-use Rattle.cm_isa.specs.Run.{ComesTo}
+use Rattle.cm_gen.specs.Returns.{GoesTo}
 use Rattle.cm_isa.specs.Register.{with_register}
 use Rattle.cm_syntax.specs.declared.stmt.Slot.{Slot}
 use Rattle.cm_syntax.specs.declared.stmt.Slot.TheVariants as slot
@@ -128,7 +128,7 @@ module _ (program : Program) (page : ℕ) where
         → ((i : ℕ) → i < 2 → IsWritable (m.words (place_address program page (f ∷ calls) frames (length calls) s i)))
         → IsCodeAt code m.counter (store_pair a b (slot_offset (slots_here program (f ∷ calls)) s))
         → let pair = store_pair a b (slot_offset (slots_here program (f ∷ calls)) s) in
-        (t : Machine) × ComesTo code (length pair) m t
+        (t : Machine) × GoesTo code (length pair) m t
         × StoresPair (λ q. q == reg.HELP) (place_address program page (f ∷ calls) frames (length calls) s 0) (place_address program page (f ∷ calls) frames (length calls) s 1) (m.registers a) (m.registers b) (4 * length pair) m t
     puts_pair f calls frames s a b m shape is pointer plain_a plain_b mapped there =
         let slots = slots_here program (f ∷ calls) in
@@ -202,28 +202,28 @@ module _ (code : Code) where
   -- the test lets a place in the slice through, and SPARE takes the number of words behind it
   takes_rest : (c n : ℕ) (more : List Operation) (m : Machine) → m.registers reg.VALUE ≡ c → m.registers reg.HELP ≡ n → c ≤ n → n < 2 ^ 28
       → IsCodeAt code m.counter (bgeu reg.HELP reg.VALUE (pos 12) ∷ (service (pos 8) ++ sub reg.SPARE reg.HELP reg.VALUE ∷ more))
-      → (t : Machine) × ComesTo code 2 m t × Sets reg.SPARE (n - c) 16 m t
+      → (t : Machine) × GoesTo code 2 m t × Sets reg.SPARE (n - c) 16 m t
   takes_rest c n more m value count few small there =
       let room = there.below in
       let u : Machine = machine_with m m.registers (m.counter + 12) in
-      let test = comes_by_one code (bgeu reg.HELP reg.VALUE (pos 12)) m u there.there.0 (split_taken m (omega (arith, value, count, few)) there.aligned (omega (arith, room))) in
+      let test = comes_by_one code (bgeu reg.HELP reg.VALUE (pos 12)) refl m u there.there.0 (split_taken m (omega (arith, value, count, few)) there.aligned (omega (arith, room))) in
       let later : IsCodeAt code u.counter (sub reg.SPARE reg.HELP reg.VALUE ∷ more) =
       code_back code (bgeu reg.HELP reg.VALUE (pos 12) ∷ service (pos 8)) (sub reg.SPARE reg.HELP reg.VALUE ∷ more) (omega arith) there in
       let room2 = later.below in
       let rest : word (int (m.registers reg.HELP) -ℤ int (m.registers reg.VALUE)) ≡ n - c =
       rw (count, value) (words.word-sub n c (omega (arith, small)) (omega (arith, small, few)) ∙ omega (arith, small, few)) in
-      let ran = sets_by_one code (sub reg.SPARE reg.HELP reg.VALUE) reg.SPARE (n - c) u refl (omega (arith, room2)) later.there.0 (ap (λ z. Some (machine_with u (with_register u.registers reg.SPARE z) (follow u.counter))) rest) in
+      let ran = sets_by_one code (sub reg.SPARE reg.HELP reg.VALUE) refl reg.SPARE (n - c) u refl (omega (arith, room2)) later.there.0 (ap (λ z. Some (machine_with u (with_register u.registers reg.SPARE z) (follow u.counter))) rest) in
       runs_behind code 12 1 m ran.0 test ran.1 ran.2 refl
 
   -- VALUE takes the address of the word behind so many words
   moves_on : (a c : ℕ) (more : List Operation) (m : Machine) → m.registers reg.VALUE ≡ c → m.registers reg.LEFT ≡ a → a + 4 * c ≤ 2 ^ 30
       → IsCodeAt code m.counter (slli reg.VALUE reg.VALUE (pos 2) ∷ add reg.VALUE reg.LEFT reg.VALUE ∷ more)
-      → (t : Machine) × ComesTo code 2 m t × Sets reg.VALUE (a + 4 * c) 8 m t
+      → (t : Machine) × GoesTo code 2 m t × Sets reg.VALUE (a + 4 * c) 8 m t
   moves_on a c more m value left below there =
       let room = there.below in
       let shifted : m.registers reg.VALUE * 2 ^ 2 % 2 ^ 32 ≡ 4 * c = omega (arith, value, below) in
       let summed : word (int a +ℤ int (4 * c)) ≡ a + 4 * c = words.word-add a (4 * c) (omega (arith, below)) (omega (arith, below)) ∙ omega (arith, below) in
-      sets_by_two code (slli reg.VALUE reg.VALUE (pos 2)) (add reg.VALUE reg.LEFT reg.VALUE) reg.VALUE (4 * c) (a + 4 * c) m refl (omega (arith, room)) there.there.0 there.there.1.0
+      sets_by_two code (slli reg.VALUE reg.VALUE (pos 2)) (add reg.VALUE reg.LEFT reg.VALUE) refl refl reg.VALUE (4 * c) (a + 4 * c) m refl (omega (arith, room)) there.there.0 there.there.1.0
       (ap (λ z. Some (machine_with m (with_register m.registers reg.VALUE z) (follow m.counter))) shifted)
       (λ t g. ap (λ z. Some (machine_with t (with_register t.registers reg.VALUE z) (follow t.counter)))
       (ap (λ z. word (int (t.registers reg.LEFT) +ℤ int z)) g.value ∙ ap (λ z. word (int z +ℤ int (4 * c))) (g.kept reg.LEFT refl ∙ left) ∙ summed))
@@ -241,8 +241,8 @@ module _ (program : Program) (page : ℕ) (code : Code) (f : ℕ) (calls : List 
   right_code = slli reg.VALUE reg.VALUE (pos 2) ∷ add reg.VALUE reg.LEFT reg.VALUE ∷ store_pair reg.VALUE reg.SPARE (slot_offset (slots_here program (f ∷ calls)) r)
 
   right_behind : (a c e : ℕ) (m s : Machine) → m.registers reg.FP ≡ pointer_of frames → m.registers reg.SPARE ≡ e → ((i : ℕ) → i < 2 → IsWritable (m.words (at r i)))
-      → IsCodeAt code m.counter right_code → ComesTo code 2 m s → Sets reg.VALUE (a + 4 * c) 8 m s
-      → (t : Machine) × ComesTo code (length right_code) m t × StoresPair may_part (at r 0) (at r 1) (a + 4 * c) e (4 * length right_code) m t
+      → IsCodeAt code m.counter right_code → GoesTo code 2 m s → Sets reg.VALUE (a + 4 * c) 8 m s
+      → (t : Machine) × GoesTo code (length right_code) m t × StoresPair may_part (at r 0) (at r 1) (a + 4 * c) e (4 * length right_code) m t
   right_behind a c e m s pointer spare mapped there first does =
       let pair = store_pair reg.VALUE reg.SPARE (slot_offset (slots_here program (f ∷ calls)) r) in
       let moves : List Operation = slli reg.VALUE reg.VALUE (pos 2) ∷ add reg.VALUE reg.LEFT reg.VALUE ∷ [] in
@@ -253,7 +253,7 @@ module _ (program : Program) (page : ℕ) (code : Code) (f : ℕ) (calls : List 
 
   right_stored : (a c e : ℕ) (m : Machine) → m.registers reg.FP ≡ pointer_of frames → m.registers reg.VALUE ≡ c → m.registers reg.LEFT ≡ a → m.registers reg.SPARE ≡ e → a + 4 * c ≤ 2 ^ 30
       → ((i : ℕ) → i < 2 → IsWritable (m.words (at r i))) → IsCodeAt code m.counter right_code
-      → (t : Machine) × ComesTo code (length right_code) m t × StoresPair may_part (at r 0) (at r 1) (a + 4 * c) e (4 * length right_code) m t
+      → (t : Machine) × GoesTo code (length right_code) m t × StoresPair may_part (at r 0) (at r 1) (a + 4 * c) e (4 * length right_code) m t
   right_stored a c e m pointer value left spare below mapped there =
       let pair = store_pair reg.VALUE reg.SPARE (slot_offset (slots_here program (f ∷ calls)) r) in
       let ran = moves_on code a c pair m value left below there in
@@ -266,8 +266,8 @@ module _ (program : Program) (page : ℕ) (code : Code) (f : ℕ) (calls : List 
   both_stored : (a c e : ℕ) (m s : Machine) → m.registers reg.FP ≡ pointer_of frames → m.registers reg.VALUE ≡ c → m.registers reg.LEFT ≡ a → m.registers reg.SPARE ≡ e → a + 4 * c ≤ 2 ^ 30
       → ((i : ℕ) → i < 2 → IsWritable (m.words (at r i))) → IsCodeAt code m.counter (store_parts (slots_here program (f ∷ calls)) l r)
       → let pair = store_pair reg.LEFT reg.VALUE (slot_offset (slots_here program (f ∷ calls)) l) in
-      ComesTo code (length pair) m s → StoresPair (λ q. q == reg.HELP) (at l 0) (at l 1) a c (4 * length pair) m s
-      → (t : Machine) × ComesTo code (length (store_parts (slots_here program (f ∷ calls)) l r)) m t × StoresParts a c e (4 * length (store_parts (slots_here program (f ∷ calls)) l r)) m t
+      GoesTo code (length pair) m s → StoresPair (λ q. q == reg.HELP) (at l 0) (at l 1) a c (4 * length pair) m s
+      → (t : Machine) × GoesTo code (length (store_parts (slots_here program (f ∷ calls)) l r)) m t × StoresParts a c e (4 * length (store_parts (slots_here program (f ∷ calls)) l r)) m t
   both_stored a c e m s pointer value left spare below mapped there first does =
       let pair = store_pair reg.LEFT reg.VALUE (slot_offset (slots_here program (f ∷ calls)) l) in
       let still : (i : ℕ) → i < 2 → IsWritable (s.words (at r i)) = λ i less. subst (λ (w : Mapped). IsWritable (w (at r i))) (sym does.words)
@@ -277,7 +277,7 @@ module _ (program : Program) (page : ℕ) (code : Code) (f : ℕ) (calls : List 
 
   parts_stored : (a c e : ℕ) (m : Machine) → m.registers reg.FP ≡ pointer_of frames → m.registers reg.VALUE ≡ c → m.registers reg.LEFT ≡ a → m.registers reg.SPARE ≡ e → a + 4 * c ≤ 2 ^ 30
       → ((i : ℕ) → i < 2 → IsWritable (m.words (at l i))) → ((i : ℕ) → i < 2 → IsWritable (m.words (at r i))) → IsCodeAt code m.counter (store_parts (slots_here program (f ∷ calls)) l r)
-      → (t : Machine) × ComesTo code (length (store_parts (slots_here program (f ∷ calls)) l r)) m t × StoresParts a c e (4 * length (store_parts (slots_here program (f ∷ calls)) l r)) m t
+      → (t : Machine) × GoesTo code (length (store_parts (slots_here program (f ∷ calls)) l r)) m t × StoresParts a c e (4 * length (store_parts (slots_here program (f ∷ calls)) l r)) m t
   parts_stored a c e m pointer value left spare below mapped_l mapped_r there =
       let pair = store_pair reg.LEFT reg.VALUE (slot_offset (slots_here program (f ∷ calls)) l) in
       let first = puts_pair program page code f calls frames l reg.LEFT reg.VALUE m shape is_l pointer refl refl mapped_l (code_front code pair right_code there) in
@@ -324,7 +324,7 @@ module _ (program : Program) (form : Form) (page limit : ℕ) (input : List ℤ)
         let count = does.value.1 in
         let more = split_not v x.length here.1 (omega (arith, small)) other in
         let u : Machine = machine_with s s.registers (s.counter + 4) in
-        let test = comes_by_one code (bgeu reg.HELP reg.VALUE (pos 12)) s u there.there.0 (split_passed s (omega (arith, value, count, more)) (omega (arith, room))) in
+        let test = comes_by_one code (bgeu reg.HELP reg.VALUE (pos 12)) refl s u there.there.0 (split_passed s (omega (arith, value, count, more)) (omega (arith, room))) in
         let later : IsCodeAt code u.counter (service (pos 8) ++ sub reg.SPARE reg.HELP reg.VALUE ∷ store_parts slots l r) =
         code_back code (bgeu reg.HELP reg.VALUE (pos 12) ∷ []) (service (pos 8) ++ sub reg.SPARE reg.HELP reg.VALUE ∷ store_parts slots l r) (omega arith) there in
         let at = code_front code (service (pos 8)) (sub reg.SPARE reg.HELP reg.VALUE ∷ store_parts slots l r) later in
@@ -401,7 +401,7 @@ module _ (program : Program) (form : Form) (page limit : ℕ) (input : List ℤ)
           before_on spot.frames m.counter q (length (straight parts ++ behind_code) + here.2.0) (length behind_code + here.2.0) (omega (arith, whole_size)) here.2.1,
           then_second code (straight parts) behind_code next m.counter here.2.2,
         ) in
-        exact_with program form page input code y idle (sequence row ∷ k) (write_parts h (length calls) l r x (natural v)) t same
+        exact_with program form page input code y tt idle tt (sequence row ∷ k) (write_parts h (length calls) l r x (natural v)) t same refl
         (subst (λ w. Holds program page (f ∷ calls) spot.frames (write_parts h (length calls) l r x (natural v)) w) (sym words) new_slots)
         (subst (λ w. Kept program page k (f ∷ calls) spot.frames (write_parts h (length calls) l r x (natural v)) w) (sym words) new_kept)
         (subst (λ w. HasOwn program page (end_count k) (f ∷ calls) spot.frames w) (sym words) new_own)
@@ -411,8 +411,8 @@ module _ (program : Program) (form : Form) (page limit : ℕ) (input : List ℤ)
     goes = LeadsFrom program form page input code spot left (f ∷ calls) h (silent (control (f ∷ calls) account idle (sequence row ∷ k)) (write_parts h (length calls) l r x (natural v))) m
 
     -- where it can, the two parts go into their slots: the stores, behind the test, behind the whole
-    part_stored : natural v ≤ x.length → (s u t : Machine) → ComesTo code (length (base slots a)) m s → Based program page (f ∷ calls) spot.frames x (4 * length (base slots a)) m s
-        → ComesTo code 2 s u → Sets reg.SPARE (x.length - natural v) 16 s u → ComesTo code (length (store_parts slots l r)) u t
+    part_stored : natural v ≤ x.length → (s u t : Machine) → GoesTo code (length (base slots a)) m s → Based program page (f ∷ calls) spot.frames x (4 * length (base slots a)) m s
+        → GoesTo code 2 s u → Sets reg.SPARE (x.length - natural v) 16 s u → GoesTo code (length (store_parts slots l r)) u t
         → StoresParts program page code f calls spot.frames y.frames l r is_l is_r (address_of first_part) (natural v) (x.length - natural v) (4 * length (store_parts slots l r)) u t
         → goes
     part_stored few s u t first does second does2 third does3 =
@@ -429,8 +429,8 @@ module _ (program : Program) (form : Form) (page limit : ℕ) (input : List ℤ)
         (omega (arith, c0, c1, c2, size)))
 
     part_tested : natural v ≤ x.length → bits v ≡ natural v → (may_write (h.references (length calls) l) ≡ true) → (may_write (h.references (length calls) r) ≡ true) → (s u : Machine)
-        → ComesTo code (length (base slots a)) m s → Based program page (f ∷ calls) spot.frames x (4 * length (base slots a)) m s
-        → ComesTo code 2 s u → Sets reg.SPARE (x.length - natural v) 16 s u → IsCodeAt code s.counter tail → goes
+        → GoesTo code (length (base slots a)) m s → Based program page (f ∷ calls) spot.frames x (4 * length (base slots a)) m s
+        → GoesTo code 2 s u → Sets reg.SPARE (x.length - natural v) 16 s u → IsCodeAt code s.counter tail → goes
     part_tested few own some_l some_r s u first does second does2 there =
         let below = is.below in
         let c1 = does2.counter in
@@ -446,7 +446,7 @@ module _ (program : Program) (form : Form) (page limit : ℕ) (input : List ℤ)
         part_stored few s u third.0 first does second does2 third.1 third.2
 
     part_based : natural v ≤ x.length → bits v ≡ natural v → (may_write (h.references (length calls) l) ≡ true) → (may_write (h.references (length calls) r) ≡ true) → (s : Machine)
-        → ComesTo code (length (base slots a)) m s → Based program page (f ∷ calls) spot.frames x (4 * length (base slots a)) m s → IsCodeAt code s.counter tail → goes
+        → GoesTo code (length (base slots a)) m s → Based program page (f ∷ calls) spot.frames x (4 * length (base slots a)) m s → IsCodeAt code s.counter tail → goes
     part_based few own some_l some_r s first does there =
         let ran = takes_rest code (natural v) x.length (store_parts slots l r) s (does.kept reg.VALUE refl ∙ here.0 ∙ own) does.value.1 few is.small there in
         part_tested few own some_l some_r s ran.0 first does ran.1 ran.2 there

@@ -3,12 +3,12 @@ use Rattle.cm_gen.proofs.patterns.JumpLaw.{jumps_run, moved}
 use Rattle.cm_syntax.specs.declared.stmt.Extent.TheVariants as extent
 use Rattle.cm_syntax.specs.declared.stmt.Extent.{Extent}
 use Rattle.cm_syntax.specs.Extent.{extent_at}
-use Rattle.std.proofs.Common.{◌≡◌, ℕ, ◌+◌, List, Option, None, Some, refl, sym, ◌∙◌, subst, [], ◌∷◌}
+use Rattle.std.proofs.Common.{◌≡◌, ℕ, ◌+◌, List, Option, None, Some, refl, sym, ap, ◌∙◌, subst, [], ◌∷◌}
 use Rattle.std.specs.Prelude.{Bool, true, false, if◌then◌else◌, ℤ, FitsSigned}
 use Rattle.std.specs.Int.{w32}
 use Rattle.cm_isa.specs.declared.convention.TheConstants as reg
 use Rattle.cm_isa.specs.Machine.{Machine, Mapped, Code}
-use Rattle.cm_isa.specs.Run.{ComesTo}
+use Rattle.cm_gen.specs.Returns.{GoesTo}
 use Rattle.cm_syntax.specs.declared.expr.Op.{Op}
 use Rattle.cm_syntax.specs.declared.stmt.Program.{Program}
 use Rattle.cm_syntax.specs.Label.{silent, traps, stuck}
@@ -23,11 +23,23 @@ use Rattle.cm_meaning.proofs.TypedFramesLaw.{IsPlain}
 use Rattle.cm_gen.specs.declared.form.Form.{Form}
 use Rattle.cm_gen.specs.Standing.{Frame, LeadsTo, Coded, slots_here}
 use Rattle.cm_gen.specs.FrameWord.{bits, Holds, Kept, HasOwn, row_of, row_for}
-use Rattle.cm_gen.specs.StandsFor.{Spot, stays, Placed, ExactAt, stands, Arrives, LeadsFrom}
+use Rattle.cm_gen.specs.StandsFor.{Spot, stays, backs, returns_at, Placed, ExactAt, stands, Arrives, LeadsFrom}
 use Rattle.cm_gen.proofs.patterns.StepLaw.{comes_on}
 use Rattle.cm_gen.proofs.patterns.StandingLaw.{leads_map}
 use Rattle.cm_gen.proofs.patterns.LeavesLaw.{SameRegisters, same_self}
 use Rattle.cm_syntax.proofs.AccessLaw.{reading, writing}
+
+-- where no call is at hand, the returns are those of the frames
+pub plain_backs : (hand : Hand) (n : ℕ) (frames : List Frame) (r : ℕ → ℕ) → IsPlain hand → returns_at hand n frames r ≡ backs n frames
+plain_backs idle n frames r none = refl
+plain_backs (holds v) n frames r none = refl
+plain_backs (returned v) n frames r none = refl
+plain_backs (entering f ws) n frames r none = absurd none
+plain_backs (framing f ws) n frames r none = absurd none
+
+-- so they are the same from one state to another
+plain_returns : (hand now : Hand) (a b : ℕ) (frames : List Frame) (r t : ℕ → ℕ) → IsPlain hand → IsPlain now → b ≡ a → returns_at hand a frames r ≡ returns_at now b frames t
+plain_returns hand now a b frames r t none none' same = plain_backs hand a frames r none ∙ ap (λ n. backs n frames) (sym same) ∙ sym (plain_backs now b frames t none')
 
 module _ (program : Program) (form : Form) (page : ℕ) (input : List ℤ) (code : Code) where
   abbrev exact : Spot → (left : ℕ) → Control → Stack → Machine → Type 0
@@ -46,16 +58,17 @@ module _ (program : Program) (form : Form) (page : ℕ) (input : List ℤ) (code
 
   -- with the same frames: the slots, what is kept, and the place are said anew
   pub exact_with : {spot : Spot} {left : ℕ} {calls : List ℕ} {account : ℕ} {hand : Hand} {k : List Item} {h : Stack} {m : Machine} (x : exact spot left (control calls account hand k) h m)
-      (now : Hand) (l : List Item) (g : Stack) (t : Machine) → SameRegisters m.registers t.registers
+      → IsPlain hand → (now : Hand) → IsPlain now → (l : List Item) (g : Stack) (t : Machine) → SameRegisters m.registers t.registers → end_count l ≡ end_count k
       → Holds program page calls spot.frames g t.words → kept l calls spot.frames g t.words → HasOwn program page (end_count l) calls spot.frames t.words
       → LeadsTo code (placed now l calls spot.frames t.registers) t.counter
       → exact spot left (control calls account now l) g t
-  exact_with x now l g t same slots keeps own here = record {
+  exact_with {spot = spot} {hand = hand} {k = k} {m = m} x none now none' l g t same count slots keeps own here = record {
     frames = x.frames;
     may_stand = x.may_stand;
     slots = slots;
     kept = keeps;
     own = own;
+    returns_are = x.returns_are ∙ plain_returns hand now (end_count k) (end_count l) spot.frames m.registers t.registers none none' count;
     zero_is = same.zero_is ∙ x.zero_is;
     low_is = same.sp ∙ x.low_is;
     account_is = same.account ∙ x.account_is;
@@ -66,11 +79,11 @@ module _ (program : Program) (form : Form) (page : ℕ) (input : List ℤ) (code
 
   -- with the same words too
   pub exact_same : {spot : Spot} {left : ℕ} {calls : List ℕ} {account : ℕ} {hand : Hand} {k : List Item} {h : Stack} {m : Machine} (x : exact spot left (control calls account hand k) h m)
-      (now : Hand) (l : List Item) (t : Machine) → SameRegisters m.registers t.registers → t.words ≡ m.words
+      → IsPlain hand → (now : Hand) → IsPlain now → (l : List Item) (t : Machine) → SameRegisters m.registers t.registers → t.words ≡ m.words
       → kept l calls spot.frames h m.words → end_count l ≡ end_count k → LeadsTo code (placed now l calls spot.frames t.registers) t.counter
       → exact spot left (control calls account now l) h t
-  exact_same {spot = spot} {calls = calls} {k = k} {h = h} x now l t same words keeps count here =
-      exact_with x now l h t same
+  exact_same {spot = spot} {calls = calls} {k = k} {h = h} x none now none' l t same words keeps count here =
+      exact_with x none now none' l h t same count
       (subst (λ w. Holds program page calls spot.frames h w) (sym words) x.slots)
       (subst (λ w. Kept program page l calls spot.frames h w) (sym words) keeps)
       (subst (λ n. HasOwn program page n calls spot.frames t.words) (sym count) (subst (λ w. HasOwn program page (end_count k) calls spot.frames w) (sym words) x.own))
@@ -78,41 +91,41 @@ module _ (program : Program) (form : Form) (page : ℕ) (input : List ℤ) (code
 
   -- ---- where a step arrives
 
-  pub leads_to : {spot : Spot} {left : ℕ} {calls : List ℕ} {h : Stack} {move : Move} {m : Machine} (n : ℕ) (t : Machine) → ComesTo code n m t
+  pub leads_to : {spot : Spot} {left : ℕ} {calls : List ℕ} {h : Stack} {move : Move} {m : Machine} (n : ℕ) (t : Machine) → GoesTo code n m t
       → Arrives program form page input code spot left calls h move t → leads spot left calls h move m
-  leads_to n t comes arrives = record { count = n; last = t; comes_to = comes; arrives = arrives }
+  leads_to n t comes arrives = record { count = n; last = t; goes_to = comes; arrives = arrives }
 
   -- some instructions, and then what leads on
-  pub leads_after : {spot : Spot} {left : ℕ} {calls : List ℕ} {h : Stack} {move : Move} {m t : Machine} (n : ℕ) → ComesTo code n m t
+  pub leads_after : {spot : Spot} {left : ℕ} {calls : List ℕ} {h : Stack} {move : Move} {m t : Machine} (n : ℕ) → GoesTo code n m t
       → leads spot left calls h move t → leads spot left calls h move m
-  leads_after {m = m} {t = t} n comes on = leads_to (n + on.count) on.last (comes_on code n on.count m t on.last comes on.comes_to) on.arrives
+  leads_after {m = m} {t = t} n comes on = leads_to (n + on.count) on.last (comes_on code n on.count m t on.last comes on.goes_to) on.arrives
 
   pub leads_stuck : {spot : Spot} {left : ℕ} {calls : List ℕ} {h : Stack} {m : Machine} → leads spot left calls h stuck m
   leads_stuck {m = m} = leads_to 0 m refl tt
 
   -- a silent step, with no frame moved
-  pub leads_on : {spot : Spot} {left : ℕ} {calls : List ℕ} {h : Stack} {c : Control} {g : Stack} {m : Machine} (n : ℕ) (t : Machine) → ComesTo code n m t
+  pub leads_on : {spot : Spot} {left : ℕ} {calls : List ℕ} {h : Stack} {c : Control} {g : Stack} {m : Machine} (n : ℕ) (t : Machine) → GoesTo code n m t
       → exact spot left c g t → leads spot left calls h (silent c g) m
-  leads_on {spot = spot} n t comes x = leads_to n t comes (stands (spot, stays refl, x))
+  leads_on {spot = spot} n t comes x = leads_to n t comes (stands (spot, stays refl, refl, x))
 
   -- no instruction, and on with another rest
   pub goes_behind : {spot : Spot} {left : ℕ} {calls : List ℕ} {account : ℕ} {hand : Hand} {k : List Item} {h : Stack} {m : Machine} (x : exact spot left (control calls account hand k) h m)
-      (l : List Item) → kept l calls spot.frames h m.words → end_count l ≡ end_count k → LeadsTo code (Coded program form page code l calls spot.frames) m.counter
+      → IsPlain hand → (l : List Item) → kept l calls spot.frames h m.words → end_count l ≡ end_count k → LeadsTo code (Coded program form page code l calls spot.frames) m.counter
       → leads spot left calls h (silent (control calls account idle l) h) m
-  goes_behind {m = m} x l keeps count coded = leads_on 0 m refl (exact_same x idle l m (same_self m.registers) refl keeps count coded)
+  goes_behind {m = m} x none l keeps count coded = leads_on 0 m refl (exact_same x none idle tt l m (same_self m.registers) refl keeps count coded)
 
   pub goes_on : {spot : Spot} {left : ℕ} {calls : List ℕ} {account : ℕ} {hand : Hand} {k : List Item} {h : Stack} {m : Machine} (x : exact spot left (control calls account hand k) h m)
-      (l : List Item) → kept l calls spot.frames h m.words → end_count l ≡ end_count k → Coded program form page code l calls spot.frames m.counter
+      → IsPlain hand → (l : List Item) → kept l calls spot.frames h m.words → end_count l ≡ end_count k → Coded program form page code l calls spot.frames m.counter
       → leads spot left calls h (silent (control calls account idle l) h) m
-  goes_on x l keeps count coded = goes_behind x l keeps count (0, coded)
+  goes_on x none l keeps count coded = goes_behind x none l keeps count (0, coded)
 
   -- some instructions put a value into VALUE, and change no word
   pub gives_value : {spot : Spot} {left : ℕ} {calls : List ℕ} {account : ℕ} {hand : Hand} {k : List Item} {h : Stack} {m : Machine} (x : exact spot left (control calls account hand k) h m)
-      (l : List Item) (v : ℤ) (n : ℕ) (t : Machine) (p : ℕ) → ComesTo code n m t → SameRegisters m.registers t.registers → t.words ≡ m.words → t.counter ≡ p
+      → IsPlain hand → (l : List Item) (v : ℤ) (n : ℕ) (t : Machine) (p : ℕ) → GoesTo code n m t → SameRegisters m.registers t.registers → t.words ≡ m.words → t.counter ≡ p
       → t.registers reg.VALUE ≡ bits v → FitsSigned w32 v → kept l calls spot.frames h m.words → end_count l ≡ end_count k → LeadsTo code (Coded program form page code l calls spot.frames) p
       → leads spot left calls h (silent (control calls account (holds v) l) h) m
-  gives_value {spot = spot} {calls = calls} x l v n t p comes same words place value fits keeps count coded =
-      leads_on n t comes (exact_same x (holds v) l t same words keeps count
+  gives_value {spot = spot} {calls = calls} x none l v n t p comes same words place value fits keeps count coded =
+      leads_on n t comes (exact_same x none (holds v) tt l t same words keeps count
       (leads_map code _ (placed (holds v) l calls spot.frames t.registers) t.counter (subst (LeadsTo code (Coded program form page code l calls spot.frames)) (sym place) coded) (λ q c. (value, fits, c))))
 
   -- ---- the choices of a step: where what it needs isn't there, nothing is said
@@ -182,6 +195,7 @@ module _ (program : Program) (form : Form) (page : ℕ) (input : List ℤ) (code
         slots = x.slots;
         kept = x.kept;
         own = x.own;
+        returns_are = x.returns_are;
         zero_is = x.zero_is;
         low_is = x.low_is;
         account_is = x.account_is;

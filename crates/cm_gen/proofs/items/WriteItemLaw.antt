@@ -42,7 +42,7 @@ module _ (program : Program) (form : Form) (page limit : ℕ) (input : List ℤ)
     assign_by s kind fits x here = by_held program form page input code (h.words (length calls) s 0) _ (λ some.
         let is = assign_code (slots_here program (f ∷ calls)) s in
         let next = Coded program form page code k (f ∷ calls) spot.frames in
-        let ran = puts_scalar program form page input code x k s reg.VALUE v m kind some (same_self m.registers) refl refl here.0
+        let ran = puts_scalar program form page input code x tt k s reg.VALUE v m kind some (same_self m.registers) refl refl here.0
         (code_at code is next m.counter (store_slot_some reg.VALUE (slot_offset (slots_here program (f ∷ calls)) s)) here.2) (straight_end code is next m.counter here.2) fits x.kept refl in
         leads_on program form page input code ran.0 ran.1 ran.2 ran.3)
 
@@ -75,7 +75,7 @@ module _ (program : Program) (form : Form) (page limit : ℕ) (input : List ℤ)
         let t = second.1 in
         let does2 = second.3 in
         let later : SameRegisters m.registers t.registers = same_after same (same_leaves refl does2) in
-        let last = puts_scalar program form page input code x k s reg.VALUE w t kind some later (does2.words ∙ does.words) refl does2.value
+        let last = puts_scalar program form page input code x tt k s reg.VALUE w t kind some later (does2.words ∙ does.words) refl does2.value
         (code_back code (operator_code o) puts does2.counter behind)
         (let c1 = does.counter in let c2 = does2.counter in let e : m.counter + 4 * length (loads ++ (operator_code o ++ puts)) ≡ t.counter + 4 * length puts = omega (arith, c1, c2, size, sized) in
         subst (LeadsTo code next) e (straight_end code (loads ++ (operator_code o ++ puts)) next m.counter here.2))

@@ -5,7 +5,7 @@ use Rattle.std.specs.Prelude.{true, false, ◌==◌, ℤ, slice_get}
 use Rattle.cm_isa.specs.declared.convention.TheConstants as reg
 use Rattle.cm_isa.specs.Alu.{offset}
 use Rattle.cm_isa.specs.Machine.{Machine, Mapped, Code, with_word, reads}
-use Rattle.cm_isa.specs.Run.{ComesTo}
+use Rattle.cm_gen.specs.Returns.{GoesTo}
 use Rattle.cm_syntax.specs.declared.stmt.Slot.TheVariants as slot
 use Rattle.cm_syntax.specs.declared.stmt.Program.{Program}
 use Rattle.cm_syntax.specs.Cell.{value_in, may_write}
@@ -14,6 +14,7 @@ use Rattle.cm_syntax.specs.Rest.{Item, Hand, idle, control}
 use Rattle.cm_syntax.specs.Step.{top}
 use Rattle.cm_meaning.specs.Activation.{end_count}
 use Rattle.cm_meaning.specs.TypedState.{slots_at, row_words}
+use Rattle.cm_meaning.proofs.TypedFramesLaw.{IsPlain}
 use Rattle.cm_gen.specs.declared.form.Form.{Form}
 use Rattle.cm_gen.specs.Code.{load_slot, store_slot}
 use Rattle.cm_gen.specs.Expression.{slot_offset, temporary_offset}
@@ -38,16 +39,16 @@ module _ (program : Program) (page : ℕ) where
 module _ (program : Program) (form : Form) (page : ℕ) (input : List ℤ) (code : Code) where
   -- a value was stored into a word of a variable
   pub wrote : {spot : Spot} {left : ℕ} {calls : List ℕ} {account : ℕ} {hand : Hand} {j : List Item} {h : Stack} {m : Machine}
-      (x : ExactAt program form page input code spot left (control calls account hand j) h m) (l : List Item) (d s i : ℕ) (v : ℤ) (t : Machine)
+      (x : ExactAt program form page input code spot left (control calls account hand j) h m) → IsPlain hand → (l : List Item) (d s i : ℕ) (v : ℤ) (t : Machine)
       → d < length calls → i < row_words (slice_get (slots_at program calls d) s) → SameRegisters m.registers t.registers
       → t.words ≡ with_word m.words (word_address spot.frames d (word_number (slots_at program calls d) s i)) (bits v)
       → RestFits program page l calls → Kept program page l calls spot.frames h m.words → end_count l ≡ end_count j
       → LeadsTo code (Coded program form page code l calls spot.frames) t.counter
       → ExactAt program form page input code spot left (control calls account idle l) (write_word h d s i v) t
-  wrote {spot = spot} {calls = calls} {h = h} {m = m} x l d s i v t deep within same words fits kept count here =
+  wrote {spot = spot} {calls = calls} {h = h} {m = m} x plain l d s i v t deep within same words fits kept count here =
       let g = write_word h d s i v in
       let a = word_address spot.frames d (word_number (slots_at program calls d) s i) in
-      exact_with program form page input code x idle l g t same
+      exact_with program form page input code x plain idle tt l g t same count
       (subst (λ w. Holds program page calls spot.frames g w) (sym words) (holds_word program page calls spot.frames h m.words d s i v x.frames deep within x.slots))
       (subst (λ w. Kept program page l calls spot.frames g w) (sym words)
       (kept_stack program page l calls spot.frames h g (with_word m.words a (bits v)) fits x.frames refl
@@ -61,7 +62,7 @@ module _ (program : Program) (form : Form) (page : ℕ) (input : List ℤ) (code
       (x : ExactAt program form page input code spot left (control (f ∷ calls) account hand j) h m) (s r : ℕ) (v : ℤ)
       → slice_get (slots_here program (f ∷ calls)) s ≡ Some slot.Scalar → value_in (h.words (length calls) s 0) ≡ Some v → (r == reg.ZERO) ≡ false → (reg.FP == r) ≡ false
       → IsCodeAt code m.counter (load_slot r (slot_offset (slots_here program (f ∷ calls)) s))
-      → (t : Machine) × ComesTo code (length (load_slot r (slot_offset (slots_here program (f ∷ calls)) s))) m t × Sets r (bits v) (4 * length (load_slot r (slot_offset (slots_here program (f ∷ calls)) s))) m t
+      → (t : Machine) × GoesTo code (length (load_slot r (slot_offset (slots_here program (f ∷ calls)) s))) m t × Sets r (bits v) (4 * length (load_slot r (slot_offset (slots_here program (f ∷ calls)) s))) m t
   loads_scalar {spot = spot} {f = f} {calls = calls} {h = h} {m = m} x s r v kind is nonzero other there =
       let slots = slots_here program (f ∷ calls) in
       let o = slot_offset slots s in
@@ -76,14 +77,14 @@ module _ (program : Program) (form : Form) (page : ℕ) (input : List ℤ) (code
 
   -- a register goes into a scalar of the running function, behind instructions that changed no word
   pub puts_scalar : {spot : Spot} {left f : ℕ} {calls : List ℕ} {account : ℕ} {hand : Hand} {j : List Item} {h : Stack} {m : Machine}
-      (x : ExactAt program form page input code spot left (control (f ∷ calls) account hand j) h m) (l : List Item) (s r : ℕ) (v : ℤ) (n : Machine)
+      (x : ExactAt program form page input code spot left (control (f ∷ calls) account hand j) h m) → IsPlain hand → (l : List Item) (s r : ℕ) (v : ℤ) (n : Machine)
       → slice_get (slots_here program (f ∷ calls)) s ≡ Some slot.Scalar → may_write (h.words (length calls) s 0) ≡ true
       → SameRegisters m.registers n.registers → n.words ≡ m.words → (r == reg.HELP) ≡ false → n.registers r ≡ bits v
       → IsCodeAt code n.counter (store_slot r (slot_offset (slots_here program (f ∷ calls)) s))
       → LeadsTo code (Coded program form page code l (f ∷ calls) spot.frames) (n.counter + 4 * length (store_slot r (slot_offset (slots_here program (f ∷ calls)) s)))
       → RestFits program page l (f ∷ calls) → Kept program page l (f ∷ calls) spot.frames h m.words → end_count l ≡ end_count j
-      → (count : ℕ) × (t : Machine) × ComesTo code count n t × ExactAt program form page input code spot left (control (f ∷ calls) account idle l) (write_word h (length calls) s 0 v) t
-  puts_scalar {spot = spot} {f = f} {calls = calls} {h = h} {m = m} x l s r v n kind some same words other value there next fits kept count =
+      → (count : ℕ) × (t : Machine) × GoesTo code count n t × ExactAt program form page input code spot left (control (f ∷ calls) account idle l) (write_word h (length calls) s 0 v) t
+  puts_scalar {spot = spot} {f = f} {calls = calls} {h = h} {m = m} x plain l s r v n kind some same words other value there next fits kept count =
       let slots = slots_here program (f ∷ calls) in
       let o = slot_offset slots s in
       let is = store_slot r o in
@@ -105,7 +106,7 @@ module _ (program : Program) (form : Form) (page : ℕ) (input : List ℤ) (code
         length is,
         t,
         ran.1,
-        wrote x l (length calls) s 0 v t deep within (same_after same (same_leaves refl does))
+        wrote x plain l (length calls) s 0 v t deep within (same_after same (same_leaves refl does))
             (does.words ∙ ap (λ w. with_word w a (n.registers r)) words ∙ ap (with_word m.words a) value ∙ ap (λ b. with_word m.words b (bits v)) (sym address))
             fits kept count
             (subst (LeadsTo code (Coded program form page code l (f ∷ calls) spot.frames)) (sym does.counter) next),
@@ -113,18 +114,18 @@ module _ (program : Program) (form : Form) (page : ℕ) (input : List ℤ) (code
 
   -- a word was stored into a temporary of the running function
   pub stored_temporary : {spot : Spot} {left f : ℕ} {calls : List ℕ} {account : ℕ} {hand : Hand} {j : List Item} {h : Stack} {m : Machine}
-      (x : ExactAt program form page input code spot left (control (f ∷ calls) account hand j) h m) (l : List Item) (i count w : ℕ) (t : Machine)
+      (x : ExactAt program form page input code spot left (control (f ∷ calls) account hand j) h m) → IsPlain hand → (l : List Item) (i count w : ℕ) (t : Machine)
       → HasRoom program page (f ∷ calls) count → i < count → SameRegisters m.registers t.registers
       → t.words ≡ with_word m.words (word_address spot.frames (length calls) (temporary_number (slots_here program (f ∷ calls)) i)) w
       → Kept program page l (f ∷ calls) spot.frames h (with_word m.words (word_address spot.frames (length calls) (temporary_number (slots_here program (f ∷ calls)) i)) w)
       → end_count l ≡ end_count j → LeadsTo code (Coded program form page code l (f ∷ calls) spot.frames) t.counter
       → ExactAt program form page input code spot left (control (f ∷ calls) account idle l) h t
-  stored_temporary {spot = spot} {f = f} {calls = calls} {h = h} {m = m} x l i count w t room less same words kept ends here =
+  stored_temporary {spot = spot} {f = f} {calls = calls} {h = h} {m = m} x plain l i count w t room less same words kept ends here =
       let slots = slots_here program (f ∷ calls) in
       let n = temporary_number slots i in
       let a = word_address spot.frames (length calls) n in
       let own : IsOwnNumber (slots_at program (f ∷ calls) (length calls)) n = subst (λ l. IsOwnNumber l n) (sym (slots_top program page f calls)) (inr (omega arith)) in
-      exact_with program form page input code x idle l h t same
+      exact_with program form page input code x plain idle tt l h t same ends
       (subst (λ w. Holds program page (f ∷ calls) spot.frames h w) (sym words)
       (holds_own program page (f ∷ calls) spot.frames h m.words (length calls) n w x.frames (temporary_word program page f calls i count room less) own x.slots))
       (subst (λ w. Kept program page l (f ∷ calls) spot.frames h w) (sym words) kept)
@@ -134,14 +135,14 @@ module _ (program : Program) (form : Form) (page : ℕ) (input : List ℤ) (code
 
   -- a register goes into a temporary, behind instructions that changed no word
   pub puts_temporary : {spot : Spot} {left f : ℕ} {calls : List ℕ} {account : ℕ} {hand : Hand} {j : List Item} {h : Stack} {m : Machine}
-      (x : ExactAt program form page input code spot left (control (f ∷ calls) account hand j) h m) (l : List Item) (i count r w : ℕ) (n : Machine)
+      (x : ExactAt program form page input code spot left (control (f ∷ calls) account hand j) h m) → IsPlain hand → (l : List Item) (i count r w : ℕ) (n : Machine)
       → HasRoom program page (f ∷ calls) count → i < count → 0 < end_count j → SameRegisters m.registers n.registers → n.words ≡ m.words → (r == reg.HELP) ≡ false → n.registers r ≡ w
       → IsCodeAt code n.counter (store_slot r (temporary_offset (slots_here program (f ∷ calls)) i))
       → LeadsTo code (Coded program form page code l (f ∷ calls) spot.frames) (n.counter + 4 * length (store_slot r (temporary_offset (slots_here program (f ∷ calls)) i)))
       → Kept program page l (f ∷ calls) spot.frames h (with_word m.words (word_address spot.frames (length calls) (temporary_number (slots_here program (f ∷ calls)) i)) w)
       → end_count l ≡ end_count j
-      → (c : ℕ) × (t : Machine) × ComesTo code c n t × ExactAt program form page input code spot left (control (f ∷ calls) account idle l) h t
-  puts_temporary {spot = spot} {f = f} {calls = calls} {j = j} {m = m} x l i count r w n room less some same words other value there next kept ends =
+      → (c : ℕ) × (t : Machine) × GoesTo code c n t × ExactAt program form page input code spot left (control (f ∷ calls) account idle l) h t
+  puts_temporary {spot = spot} {f = f} {calls = calls} {j = j} {m = m} x plain l i count r w n room less some same words other value there next kept ends =
       let slots = slots_here program (f ∷ calls) in
       let o = temporary_offset slots i in
       let is = store_slot r o in
@@ -158,6 +159,6 @@ module _ (program : Program) (form : Form) (page : ℕ) (input : List ℤ) (code
         length is,
         t,
         ran.1,
-        stored_temporary x l i count w t room less (same_after same (same_leaves refl does)) (does.words ∙ ap (λ w. with_word w a (n.registers r)) words ∙ ap (with_word m.words a) value) kept ends
+        stored_temporary x plain l i count w t room less (same_after same (same_leaves refl does)) (does.words ∙ ap (λ w. with_word w a (n.registers r)) words ∙ ap (with_word m.words a) value) kept ends
             (subst (LeadsTo code (Coded program form page code l (f ∷ calls) spot.frames)) (sym does.counter) next),
       )

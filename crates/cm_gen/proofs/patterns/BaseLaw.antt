@@ -11,7 +11,7 @@ use Rattle.cm_isa.specs.Operation.{Operation, ecall}
 use Rattle.cm_isa.specs.Alu.{int, word, offset}
 use Rattle.cm_isa.specs.Action.{follow}
 use Rattle.cm_isa.specs.Machine.{Machine, Mapped, Code, InstructionsAt, machine_after, machine_with, reads}
-use Rattle.cm_isa.specs.Run.{ComesTo}
+use Rattle.cm_gen.specs.Returns.{GoesTo}
 use Rattle.cm_isa.specs.Register.{with_register}
 use Rattle.cm_isa.specs.declared.convention.TheConstants as reg
 use Rattle.cm_syntax.specs.declared.stmt.Slot.{Slot}
@@ -52,18 +52,18 @@ module _ (code : Code) where
       → offset (m.registers reg.FP) o ≡ a → m.counter + 12 < 2 ^ 32
       → InstructionsAt code m.counter (if near then addi r reg.FP o ∷ [] else lui r (high_part o) ∷ addi r r (low_part o) ∷ add r r reg.FP ∷ [])
       → let size = length (if near then addi r reg.FP o ∷ [] else lui r (high_part o) ∷ addi r r (low_part o) ∷ add r r reg.FP ∷ []) in
-      (t : Machine) × ComesTo code size m t × Sets r a (4 * size) m t
+      (t : Machine) × GoesTo code size m t × Sets r a (4 * size) m t
   address_by true r o a m is nonzero other frame fits address room there =
       let value : word (int (m.registers reg.FP) +ℤ int (cast_unsigned w32 o)) ≡ a =
       ap (λ v. word (int (m.registers reg.FP) +ℤ v)) (words.int-cast_unsigned o fits) ∙ sym (words.word-pos_add (m.registers reg.FP) o frame) ∙ address in
-      sets_by_one code (addi r reg.FP o) r a m nonzero (omega (arith, room)) there.0 (ap (λ v. Some (machine_with m (with_register m.registers r v) (follow m.counter))) value)
+      sets_by_one code (addi r reg.FP o) refl r a m nonzero (omega (arith, room)) there.0 (ap (λ v. Some (machine_with m (with_register m.registers r v) (follow m.counter))) value)
   address_by false r o a m is nonzero other frame fits address room there =
       let upper = cast_unsigned w32 (high_part o) in
       let lower = cast_unsigned w32 (low_part o) in
       let f = m.registers reg.FP in
       let value : word (int upper +ℤ int lower) ≡ cast_unsigned w32 o =
       rw (words.int-cast_unsigned (high_part o) (words.wrapped_fits _), words.int-cast_unsigned (low_part o) (words.low_part_fits o)) (words.word-parts o ∙ words.word-fits o fits) in
-      let two = sets_by_two code (lui r (high_part o)) (addi r r (low_part o)) r upper (cast_unsigned w32 o) m nonzero (omega (arith, room)) there.0 there.1.0 refl
+      let two = sets_by_two code (lui r (high_part o)) (addi r r (low_part o)) refl refl r upper (cast_unsigned w32 o) m nonzero (omega (arith, room)) there.0 there.1.0 refl
       (λ t does. ap (λ v. Some (machine_with t (with_register t.registers r v) (follow t.counter))) (ap (λ u. word (int u +ℤ int lower)) does.value ∙ value)) in
       let s = two.0 in
       let does = two.2 in
@@ -72,13 +72,13 @@ module _ (code : Code) where
       ap (λ u. word (int u +ℤ int (s.registers reg.FP))) does.value ∙ ap (λ u. word (int (cast_unsigned w32 o) +ℤ int u)) (does.kept reg.FP other)
       ∙ ap (λ u. word (u +ℤ int f)) (words.int-cast_unsigned o fits) ∙ ap word (turned o (int f)) ∙ sym (words.word-pos_add f o frame) ∙ address in
       let e : m.counter + 4 + 4 ≡ s.counter = omega (arith, does.counter) in
-      let last = sets_by_one code (add r r reg.FP) r a s nonzero (omega (arith, room, does.counter)) (subst (λ p. code p (add r r reg.FP)) e there.1.1.0)
+      let last = sets_by_one code (add r r reg.FP) refl r a s nonzero (omega (arith, room, does.counter)) (subst (λ p. code p (add r r reg.FP)) e there.1.1.0)
       (ap (λ v. Some (machine_with s (with_register s.registers r v) (follow s.counter))) summed) in
       runs_both code 2 1 m s last.0 two.1 does last.1 last.2 refl (λ q h. (h, h)) last.2.value
 
   pub load_address_runs : (r : ℕ) (o : ℤ) (a : ℕ) (m : Machine) → (r == reg.ZERO) ≡ false → (reg.FP == r) ≡ false → m.registers reg.FP < 2 ^ 32 → FitsSigned w32 o
       → offset (m.registers reg.FP) o ≡ a → m.counter + 12 < 2 ^ 32 → InstructionsAt code m.counter (load_address r o)
-      → (t : Machine) × ComesTo code (length (load_address r o)) m t × Sets r a (4 * length (load_address r o)) m t
+      → (t : Machine) × GoesTo code (length (load_address r o)) m t × Sets r a (4 * length (load_address r o)) m t
   load_address_runs r o a m nonzero other frame fits address room there = address_by (is_near o) r o a m refl nonzero other frame fits address room there
 
 -- ---- the words of a row
@@ -293,7 +293,7 @@ module _ (program : Program) (page : ℕ) where
     own_base : (f : ℕ) (calls : List ℕ) (frames : List Frame) (h : Stack) (a : ℕ) (kind : Slot) (n : ℕ) (m : Machine) → slice_get (slots_here program (f ∷ calls)) a ≡ Some kind → n ≤ slot_words kind
         → IsAtBase (f ∷ calls) frames h m
         → let is = load_address reg.LEFT (slot_offset (slots_here program (f ∷ calls)) a) ++ load_number reg.HELP (pos n) in IsCodeAt code m.counter is
-        → (t : Machine) × ComesTo code (length is) m t × Based (f ∷ calls) frames (record { depth = length calls; slot = a; start = 0; length = n }) (4 * length is) m t
+        → (t : Machine) × GoesTo code (length is) m t × Based (f ∷ calls) frames (record { depth = length calls; slot = a; start = 0; length = n }) (4 * length is) m t
     own_base f calls frames h a kind n m e few x here =
         let o = slot_offset (slots_here program (f ∷ calls)) a in
         let off = slot_offset_is f calls frames a kind x.shape e in
@@ -318,7 +318,7 @@ module _ (program : Program) (page : ℕ) where
     slice_base : (f : ℕ) (calls : List ℕ) (frames : List Frame) (h : Stack) (a : ℕ) (r : Reference) (m : Machine) → slice_get (slots_here program (f ∷ calls)) a ≡ Some slot.Slice → value_in (h.references (length calls) a) ≡ Some r
         → IsAtBase (f ∷ calls) frames h m
         → let o = slot_offset (slots_here program (f ∷ calls)) a in let is = load_slot reg.LEFT o ++ load_slot reg.HELP (o +ℤ pos 4) in IsCodeAt code m.counter is
-        → (t : Machine) × ComesTo code (length is) m t × Based (f ∷ calls) frames r (4 * length is) m t
+        → (t : Machine) × GoesTo code (length is) m t × Based (f ∷ calls) frames r (4 * length is) m t
     slice_base f calls frames h a r m e reference x here =
         let slots = slots_here program (f ∷ calls) in
         let o = slot_offset slots a in
@@ -342,7 +342,7 @@ module _ (program : Program) (page : ℕ) where
     -- the number of words, in VALUE
     pub length_runs : (calls : List ℕ) (frames : List Frame) (h : Stack) (a : ℕ) (r : Reference) (m : Machine) → IsAtBase calls frames h m → value_in (row_of program page calls h a) ≡ Some r → r.length < 2 ^ 31
         → IsCodeAt code m.counter (length_code (slots_here program calls) a)
-        → (t : Machine) × ComesTo code (length (length_code (slots_here program calls) a)) m t × Sets reg.VALUE r.length (4 * length (length_code (slots_here program calls) a)) m t
+        → (t : Machine) × GoesTo code (length (length_code (slots_here program calls) a)) m t × Sets reg.VALUE r.length (4 * length (length_code (slots_here program calls) a)) m t
     length_runs [] frames h a r m x row small here = absurd (no_row row)
       where
         no_row : value_in (row_of program page [] h a) ≡ Some r → ⊥
@@ -353,16 +353,16 @@ module _ (program : Program) (page : ℕ) where
         o = slot_offset (slots_here program (f ∷ calls)) a
 
         number : (n : ℕ) → n ≡ r.length → IsCodeAt code m.counter (load_number reg.VALUE (pos n))
-            → (t : Machine) × ComesTo code (length (load_number reg.VALUE (pos n))) m t × Sets reg.VALUE r.length (4 * length (load_number reg.VALUE (pos n))) m t
+            → (t : Machine) × GoesTo code (length (load_number reg.VALUE (pos n))) m t × Sets reg.VALUE r.length (4 * length (load_number reg.VALUE (pos n))) m t
         number n same here =
             let below = here.below in
             let bits_are : cast_unsigned w32 (pos n) ≡ r.length = same in
-            subst (λ v. (t : Machine) × ComesTo code (length (load_number reg.VALUE (pos n))) m t × Sets reg.VALUE v (4 * length (load_number reg.VALUE (pos n))) m t) bits_are
+            subst (λ v. (t : Machine) × GoesTo code (length (load_number reg.VALUE (pos n))) m t × Sets reg.VALUE v (4 * length (load_number reg.VALUE (pos n))) m t) bits_are
             (load_number_runs code reg.VALUE (pos n) m refl x.zero_is (fits_signed_from_abs w32 (pos n) (omega (arith, small, same))) (omega (arith, below)) here.there)
 
         by_kind : (kind : Option Slot) → slice_get (slots_here program (f ∷ calls)) a ≡ kind → value_in (row_in program page kind (f ∷ calls) h a) ≡ Some r
             → IsCodeAt code m.counter (length_for (option_map extent_of kind) o)
-            → (t : Machine) × ComesTo code (length (length_for (option_map extent_of kind) o)) m t × Sets reg.VALUE r.length (4 * length (length_for (option_map extent_of kind) o)) m t
+            → (t : Machine) × GoesTo code (length (length_for (option_map extent_of kind) o)) m t × Sets reg.VALUE r.length (4 * length (length_for (option_map extent_of kind) o)) m t
         by_kind None e row here = cc row
         by_kind (Some slot.Scalar) e row here = number 1 (ap (λ r. r.length) (same_Some _ _ row)) here
         by_kind (Some (slot.Array n)) e row here = number n (ap (λ r. r.length) (same_Some _ _ row)) here
@@ -376,7 +376,7 @@ module _ (program : Program) (page : ℕ) where
     -- The code of a base, from a machine that stands before it.
     pub base_runs : (calls : List ℕ) (frames : List Frame) (h : Stack) (a : ℕ) (r : Reference) (m : Machine) → IsAtBase calls frames h m → value_in (row_of program page calls h a) ≡ Some r
         → IsCodeAt code m.counter (base (slots_here program calls) a)
-        → (t : Machine) × ComesTo code (length (base (slots_here program calls) a)) m t × Based calls frames r (4 * length (base (slots_here program calls) a)) m t
+        → (t : Machine) × GoesTo code (length (base (slots_here program calls) a)) m t × Based calls frames r (4 * length (base (slots_here program calls) a)) m t
     base_runs [] frames h a r m x row here = absurd (no_row row)
       where
         no_row : value_in (row_of program page [] h a) ≡ Some r → ⊥
@@ -385,13 +385,13 @@ module _ (program : Program) (page : ℕ) where
       where
         by_kind : (o : Option Slot) → slice_get (slots_here program (f ∷ calls)) a ≡ o → value_in (row_in program page o (f ∷ calls) h a) ≡ Some r
             → IsCodeAt code m.counter (base_for (option_map extent_of o) (slot_offset (slots_here program (f ∷ calls)) a))
-            → (t : Machine) × ComesTo code (length (base_for (option_map extent_of o) (slot_offset (slots_here program (f ∷ calls)) a))) m t × Based (f ∷ calls) frames r (4 * length (base_for (option_map extent_of o) (slot_offset (slots_here program (f ∷ calls)) a))) m t
+            → (t : Machine) × GoesTo code (length (base_for (option_map extent_of o) (slot_offset (slots_here program (f ∷ calls)) a))) m t × Based (f ∷ calls) frames r (4 * length (base_for (option_map extent_of o) (slot_offset (slots_here program (f ∷ calls)) a))) m t
         by_kind None e row here = cc row
         by_kind (Some slot.Scalar) e row here =
-            subst (λ r. (t : Machine) × ComesTo code (length (base_for (Some extent.Word) (slot_offset (slots_here program (f ∷ calls)) a))) m t × Based (f ∷ calls) frames r (4 * length (base_for (Some extent.Word) (slot_offset (slots_here program (f ∷ calls)) a))) m t)
+            subst (λ r. (t : Machine) × GoesTo code (length (base_for (Some extent.Word) (slot_offset (slots_here program (f ∷ calls)) a))) m t × Based (f ∷ calls) frames r (4 * length (base_for (Some extent.Word) (slot_offset (slots_here program (f ∷ calls)) a))) m t)
             (same_Some _ _ row) (own_base f calls frames h a slot.Scalar 1 m e (omega arith) x here)
         by_kind (Some (slot.Array n)) e row here =
-            subst (λ r. (t : Machine) × ComesTo code (length (base_for (Some (extent.Words n)) (slot_offset (slots_here program (f ∷ calls)) a))) m t × Based (f ∷ calls) frames r (4 * length (base_for (Some (extent.Words n)) (slot_offset (slots_here program (f ∷ calls)) a))) m t)
+            subst (λ r. (t : Machine) × GoesTo code (length (base_for (Some (extent.Words n)) (slot_offset (slots_here program (f ∷ calls)) a))) m t × Based (f ∷ calls) frames r (4 * length (base_for (Some (extent.Words n)) (slot_offset (slots_here program (f ∷ calls)) a))) m t)
             (same_Some _ _ row) (own_base f calls frames h a (slot.Array n) n m e (omega arith) x here)
         by_kind (Some slot.Slice) e row here = slice_base f calls frames h a r m e row x here
 
@@ -422,17 +422,17 @@ module _ (code : Code) where
   locating = bltu reg.VALUE reg.HELP (pos 12) ∷ (service (pos 8) ++ slli reg.VALUE reg.VALUE (pos 2) ∷ add reg.VALUE reg.VALUE reg.LEFT ∷ [])
 
   pub finds : (i n a : ℕ) (m : Machine) → m.registers reg.VALUE ≡ i → m.registers reg.HELP ≡ n → m.registers reg.LEFT ≡ a → i < n → a + 4 * n ≤ 2 ^ 30 → IsCodeAt code m.counter locating
-      → (t : Machine) × ComesTo code 3 m t × Sets reg.VALUE (a + 4 * i) 20 m t
+      → (t : Machine) × GoesTo code 3 m t × Sets reg.VALUE (a + 4 * i) 20 m t
   finds i n a m value help left less below here =
       let room = here.below in
       let s : Machine = machine_with m m.registers (m.counter + 12) in
       let test : nat_lt (m.registers reg.VALUE) (m.registers reg.HELP) ≡ true = rw (value, help) (lt-ltb i n less) in
-      let first = comes_by_one code (bltu reg.VALUE reg.HELP (pos 12)) m s here.there.0 (less_taken m test here.aligned (omega (arith, room))) in
+      let first = comes_by_one code (bltu reg.VALUE reg.HELP (pos 12)) refl m s here.there.0 (less_taken m test here.aligned (omega (arith, room))) in
       let e3 : m.counter + 4 + 4 + 4 ≡ m.counter + 12 = omega arith in
       let e4 : m.counter + 4 + 4 + 4 + 4 ≡ m.counter + 12 + 4 = omega arith in
       let shifted : m.registers reg.VALUE * 2 ^ 2 % 2 ^ 32 ≡ 4 * i = omega (arith, value, less, below) in
       let summed : word (int (4 * i) +ℤ int a) ≡ a + 4 * i = words.word-add (4 * i) a (omega (arith, less, below)) (omega (arith, less, below)) ∙ omega (arith, less, below) in
-      let two = sets_by_two code (slli reg.VALUE reg.VALUE (pos 2)) (add reg.VALUE reg.VALUE reg.LEFT) reg.VALUE (4 * i) (a + 4 * i) s refl (omega (arith, room))
+      let two = sets_by_two code (slli reg.VALUE reg.VALUE (pos 2)) (add reg.VALUE reg.VALUE reg.LEFT) refl refl reg.VALUE (4 * i) (a + 4 * i) s refl (omega (arith, room))
       (subst (λ p. code p (slli reg.VALUE reg.VALUE (pos 2))) e3 here.there.1.1.1.0) (subst (λ p. code p (add reg.VALUE reg.VALUE reg.LEFT)) e4 here.there.1.1.1.1.0)
       (ap (λ v. Some (machine_with s (with_register s.registers reg.VALUE v) (follow s.counter))) shifted)
       (λ t does. ap (λ v. Some (machine_with t (with_register t.registers reg.VALUE v) (follow t.counter)))
@@ -440,12 +440,12 @@ module _ (code : Code) where
       runs_behind code 12 2 m two.0 first two.1 two.2 refl
 
   pub misses : (i n : ℕ) (m : Machine) → m.registers reg.ZERO ≡ 0 → m.registers reg.VALUE ≡ i → m.registers reg.HELP ≡ n → nat_lt i n ≡ false → IsCodeAt code m.counter locating
-      → (t : Machine) × ComesTo code 2 m t × code t.counter ecall × (t.registers reg.SERVICE ≡ 8) × (t.registers reg.TICKS ≡ m.registers reg.TICKS)
+      → (t : Machine) × GoesTo code 2 m t × code t.counter ecall × (t.registers reg.SERVICE ≡ 8) × (t.registers reg.TICKS ≡ m.registers reg.TICKS)
   misses i n m zero_is value help more here =
       let room = here.below in
       let s : Machine = machine_with m m.registers (m.counter + 4) in
       let test : nat_lt (m.registers reg.VALUE) (m.registers reg.HELP) ≡ false = rw (value, help) more in
-      let first = comes_by_one code (bltu reg.VALUE reg.HELP (pos 12)) m s here.there.0 (less_passed m test (omega (arith, room))) in
+      let first = comes_by_one code (bltu reg.VALUE reg.HELP (pos 12)) refl m s here.there.0 (less_passed m test (omega (arith, room))) in
       let at = code_front code (service (pos 8)) (slli reg.VALUE reg.VALUE (pos 2) ∷ add reg.VALUE reg.VALUE reg.LEFT ∷ [])
       (code_back code (bltu reg.VALUE reg.HELP (pos 12) ∷ []) (service (pos 8) ++ slli reg.VALUE reg.VALUE (pos 2) ∷ add reg.VALUE reg.VALUE reg.LEFT ∷ []) (omega arith) here) in
       let ran = service_runs code 8 s (omega arith) zero_is at in
@@ -460,7 +460,7 @@ module _ (program : Program) (page : ℕ) (code : Code) where
   -- an index in VALUE of a row: where it fits, VALUE takes the address of the element
   pub locate_runs : (calls : List ℕ) (frames : List Frame) (h : Stack) (a : ℕ) (r : Reference) (v : ℤ) (m : Machine) → IsAtBase program page calls frames h m → value_in (row_of program page calls h a) ≡ Some r
       → IsRow program page calls frames r → m.registers reg.VALUE ≡ bits v → FitsSigned w32 v → is_index v r.length ≡ true → IsCodeAt code m.counter (locate_code (slots_here program calls) a)
-      → (t : Machine) × ComesTo code (length (base (slots_here program calls) a) + 3) m t × Located calls frames r (natural v) (4 * length (locate_code (slots_here program calls) a)) m t
+      → (t : Machine) × GoesTo code (length (base (slots_here program calls) a) + 3) m t × Located calls frames r (natural v) (4 * length (locate_code (slots_here program calls) a)) m t
   locate_runs calls frames h a r v m x row is value fits index here =
       let b = base (slots_here program calls) a in
       let size = length-append b (locating code) in
@@ -475,7 +475,7 @@ module _ (program : Program) (page : ℕ) (code : Code) where
   -- else the run is at service 8
   pub locate_traps : (calls : List ℕ) (frames : List Frame) (h : Stack) (a : ℕ) (r : Reference) (v : ℤ) (m : Machine) → IsAtBase program page calls frames h m → value_in (row_of program page calls h a) ≡ Some r
       → IsRow program page calls frames r → m.registers reg.VALUE ≡ bits v → FitsSigned w32 v → is_index v r.length ≡ false → IsCodeAt code m.counter (locate_code (slots_here program calls) a)
-      → (t : Machine) × ComesTo code (length (base (slots_here program calls) a) + 2) m t × code t.counter ecall × (t.registers reg.SERVICE ≡ 8) × (t.registers reg.TICKS ≡ m.registers reg.TICKS)
+      → (t : Machine) × GoesTo code (length (base (slots_here program calls) a) + 2) m t × code t.counter ecall × (t.registers reg.SERVICE ≡ 8) × (t.registers reg.TICKS ≡ m.registers reg.TICKS)
   locate_traps calls frames h a r v m x row is value fits index here =
       let b = base (slots_here program calls) a in
       let first = base_runs program page code calls frames h a r m x row (code_front code b (locating code) here) in

@@ -12,7 +12,7 @@ use Rattle.cm_isa.specs.Bits.{minus}
 use Rattle.cm_isa.specs.Alu.{int, word, offset}
 use Rattle.cm_isa.specs.Action.{follow}
 use Rattle.cm_isa.specs.Machine.{Machine, Mapped, Code, machine_after, machine_with, with_word, IsWritable}
-use Rattle.cm_isa.specs.Run.{ComesTo}
+use Rattle.cm_gen.specs.Returns.{GoesTo}
 use Rattle.cm_isa.specs.Register.{with_register}
 use Rattle.cm_syntax.specs.declared.stmt.Program.{Program}
 use Rattle.cm_syntax.specs.Cell.{Cell, present, may_write}
@@ -136,7 +136,7 @@ module _ (program : Program) (page : ℕ) (code : Code) (calls : List ℕ) (fram
 
   -- the machine is behind the store and the addition of a turn
   turn_runs : (i : ℕ) (m : Machine) → i < n → m.counter ≡ p → m.registers reg.ZERO ≡ 0 → m.registers reg.VALUE ≡ first + 4 * i → Cleared i m.words
-      → (t : Machine) × ComesTo code 2 m t × (t.counter ≡ p + 8) × SameRegisters m.registers t.registers × (t.registers reg.VALUE ≡ first + 4 * suc i) × (t.registers reg.LEFT ≡ m.registers reg.LEFT)
+      → (t : Machine) × GoesTo code 2 m t × (t.counter ≡ p + 8) × SameRegisters m.registers t.registers × (t.registers reg.VALUE ≡ first + 4 * suc i) × (t.registers reg.LEFT ≡ m.registers reg.LEFT)
       × Cleared (suc i) t.words
   turn_runs i m less at zero_is value x =
       let room = there.below in
@@ -147,7 +147,7 @@ module _ (program : Program) (page : ℕ) (code : Code) (calls : List ℕ) (fram
       let summed : word (int (m.registers reg.VALUE) +ℤ int (cast_unsigned w32 (pos 4))) ≡ first + 4 * suc i =
       rw value (words.word-add a 4 (omega (arith, below, less)) (omega arith) ∙ omega (arith, below, less)) in
       let e : p + 4 ≡ m.counter + 4 = omega (arith, at) in
-      let two = sets_by_one code (addi reg.VALUE reg.VALUE (pos 4)) reg.VALUE (first + 4 * suc i) u refl (omega (arith, room, at)) (subst (λ q. code q (addi reg.VALUE reg.VALUE (pos 4))) e there.there.1.0)
+      let two = sets_by_one code (addi reg.VALUE reg.VALUE (pos 4)) refl reg.VALUE (first + 4 * suc i) u refl (omega (arith, room, at)) (subst (λ q. code q (addi reg.VALUE reg.VALUE (pos 4))) e there.there.1.0)
       (ap (λ v. Some (machine_with u (with_register u.registers reg.VALUE v) (follow u.counter))) summed) in
       let t = two.0 in
       let does = two.2 in (
@@ -161,7 +161,7 @@ module _ (program : Program) (page : ℕ) (code : Code) (calls : List ℕ) (fram
       )
 
   pub clears : (rest i : ℕ) (m : Machine) → i + suc rest ≡ n → m.counter ≡ p → m.registers reg.ZERO ≡ 0 → m.registers reg.VALUE ≡ first + 4 * i → m.registers reg.LEFT ≡ first + 4 * n → Cleared i m.words
-      → (count : ℕ) × (t : Machine) × ComesTo code count m t × (t.counter ≡ p + 12) × SameRegisters m.registers t.registers × Cleared n t.words
+      → (count : ℕ) × (t : Machine) × GoesTo code count m t × (t.counter ≡ p + 12) × SameRegisters m.registers t.registers × Cleared n t.words
   clears zero i m last at zero_is value left x =
       let room = there.below in
       let ran = turn_runs i m (omega (arith, last)) at zero_is value x in
@@ -172,7 +172,7 @@ module _ (program : Program) (page : ℕ) (code : Code) (calls : List ℕ) (fram
       let more : nat_lt (t.registers reg.VALUE) (t.registers reg.LEFT) ≡ false = let v = ran.4 in let l = ran.5 in le-ltb (t.registers reg.VALUE) (t.registers reg.LEFT) (omega (arith, v, l, left, full)) in (
         3,
         moved t (t.counter + 4),
-        comes_on code 2 1 m t (moved t (t.counter + 4)) ran.1 (comes_by_one code (bltu reg.VALUE reg.LEFT (minus 8)) t (moved t (t.counter + 4)) (subst (λ q. code q (bltu reg.VALUE reg.LEFT (minus 8))) e there.there.1.1.0) (less_on t more (omega (arith, room, c)))),
+        comes_on code 2 1 m t (moved t (t.counter + 4)) ran.1 (comes_by_one code (bltu reg.VALUE reg.LEFT (minus 8)) refl t (moved t (t.counter + 4)) (subst (λ q. code q (bltu reg.VALUE reg.LEFT (minus 8))) e there.there.1.1.0) (less_on t more (omega (arith, room, c)))),
         omega (arith, c),
         ran.3,
         subst (λ j. Cleared j t.words) full ran.6,
@@ -184,9 +184,9 @@ module _ (program : Program) (page : ℕ) (code : Code) (calls : List ℕ) (fram
       let c = ran.2 in
       let e : p + 4 + 4 ≡ t.counter = omega (arith, c) in
       let less : nat_lt (t.registers reg.VALUE) (t.registers reg.LEFT) ≡ true = let v = ran.4 in let l = ran.5 in lt-ltb (t.registers reg.VALUE) (t.registers reg.LEFT) (omega (arith, v, l, left, last)) in
-      let back = comes_by_one code (bltu reg.VALUE reg.LEFT (minus 8)) t (moved t p) (subst (λ q. code q (bltu reg.VALUE reg.LEFT (minus 8))) e there.there.1.1.0) (less_back t p less c there.aligned (omega (arith, room))) in
+      let back = comes_by_one code (bltu reg.VALUE reg.LEFT (minus 8)) refl t (moved t p) (subst (λ q. code q (bltu reg.VALUE reg.LEFT (minus 8))) e there.there.1.1.0) (less_back t p less c there.aligned (omega (arith, room))) in
       let on = clears rest (suc i) (moved t p) (omega (arith, last)) refl (ran.3.zero_is ∙ zero_is) ran.4 (ran.5 ∙ left) ran.6 in
-      let three : ComesTo code 3 m (moved t p) = comes_on code 2 1 m t (moved t p) ran.1 back in
+      let three : GoesTo code 3 m (moved t p) = comes_on code 2 1 m t (moved t p) ran.1 back in
       (3 + on.0, on.1, comes_on code 3 on.0 m (moved t p) on.1 three on.2, on.3, same_after ran.3 on.4, on.5)
 
   -- nothing is cleared at the beginning

@@ -11,7 +11,7 @@ use Rattle.cm_isa.specs.declared.convention.TheConstants as reg
 use Rattle.cm_isa.specs.Bits.{minus}
 use Rattle.cm_isa.specs.Alu.{int, offset}
 use Rattle.cm_isa.specs.Machine.{Machine, Code, machine_after, machine_with}
-use Rattle.cm_isa.specs.Run.{ComesTo}
+use Rattle.cm_gen.specs.Returns.{GoesTo}
 use Rattle.cm_syntax.specs.Operator.{is_zero}
 use Rattle.cm_gen.specs.Assembler.{jal, bne}
 use Rattle.cm_gen.specs.Part.{Part}
@@ -76,23 +76,23 @@ is_something a h fits r e z = nonzero a h (sym (words.int-cast_unsigned a fits) 
 
 module _ (code : Code) where
   -- one jump forward
-  pub jump_runs : (m : Machine) (q : ℕ) → JumpsTo code m.counter q → ComesTo code 1 m (moved m q)
+  pub jump_runs : (m : Machine) (q : ℕ) → JumpsTo code m.counter q → GoesTo code 1 m (moved m q)
   jump_runs m q j =
       let n = 4 * j.words in
       let aligned = j.jump.aligned in
       let target = j.target in
       let below = j.below in
       let e : m.counter + n ≡ q = omega (arith, target) in
-      comes_by_one code (jal reg.ZERO (pos n)) m (moved m q) j.jump.there
+      comes_by_one code (jal reg.ZERO (pos n)) refl m (moved m q) j.jump.there
       (jumps_on n m (omega (arith, aligned)) (omega (arith, target, below)) ∙ ap (λ p. Some (moved m p)) e)
 
   -- the jumps before a place are done
-  pub jumps_run : (n : ℕ) (K : ℕ → Type 0) (m : Machine) → BehindJumps code n K m.counter → (q : ℕ) × ComesTo code n m (moved m q) × K q
+  pub jumps_run : (n : ℕ) (K : ℕ → Type 0) (m : Machine) → BehindJumps code n K m.counter → (q : ℕ) × GoesTo code n m (moved m q) × K q
   jumps_run zero K m h = (m.counter, refl, h)
   jumps_run (suc n) K m h =
       let on = jumps_run n K (moved m h.0) h.2 in
       let e : 1 + n ≡ suc n = omega arith in
-      (on.0, subst (λ c. ComesTo code c m (moved m on.0)) e (comes_on code 1 n m (moved m h.0) (moved m on.0) (jump_runs m h.0 h.1) on.1), on.2)
+      (on.0, subst (λ c. GoesTo code c m (moved m on.0)) e (comes_on code 1 n m (moved m h.0) (moved m on.0) (jump_runs m h.0 h.1) on.1), on.2)
 
   -- what is said of where jumps lead is that it leads on by jumps
   pub leads_join : (n : ℕ) (K L : ℕ → Type 0) (p : ℕ) → BehindJumps code n K p → ((q : ℕ) → K q → LeadsTo code L q) → LeadsTo code L p

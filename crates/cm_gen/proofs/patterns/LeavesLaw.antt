@@ -5,7 +5,8 @@ use Rattle.std.specs.Prelude.{Bool, false, ◌==◌, ◌||◌}
 use Rattle.cm_isa.specs.declared.convention.TheConstants as reg
 use Rattle.cm_isa.specs.Operation.{Operation}
 use Rattle.cm_isa.specs.Machine.{Machine, Mapped, Code, machine_with, with_word}
-use Rattle.cm_isa.specs.Run.{ComesTo, replied_machine}
+use Rattle.cm_isa.specs.Run.{replied_machine}
+use Rattle.cm_gen.specs.Returns.{GoesTo}
 use Rattle.cm_gen.proofs.patterns.StepLaw.{comes_on}
 
 -- The machine t is at an address `bytes` further than m, `says` is true of its registers, those that it may not have changed
@@ -72,27 +73,27 @@ leaves_say does value = record { counter = does.counter; value = value; kept = d
 module _ (code : Code) where
   -- the run too
   pub runs_both : {f g h : ℕ → Bool} {P Q R : (ℕ → ℕ) → Type 0} {w z : Mapped → Mapped} {a b c : ℕ} (x y : ℕ) (m s t : Machine)
-      → ComesTo code x m s → Leaves f P w a m s → ComesTo code y s t → Leaves g Q z b s t
+      → GoesTo code x m s → Leaves f P w a m s → GoesTo code y s t → Leaves g Q z b s t
       → c ≡ a + b → ((q : ℕ) → h q ≡ false → (f q ≡ false) × (g q ≡ false)) → R t.registers
-      → (t : Machine) × ComesTo code (x + y) m t × Leaves h R (λ x. z (w x)) c m t
+      → (t : Machine) × GoesTo code (x + y) m t × Leaves h R (λ x. z (w x)) c m t
   runs_both x y m s t first left second right size apart value = (t, comes_on code x y m s t first second, leaves_both m s t left right size apart value)
 
   -- each instruction of two codes is done
-  pub codes_come : (b c : List Operation) (m s t : Machine) → ComesTo code (length b) m s → ComesTo code (length c) s t → ComesTo code (length (b ++ c)) m t
-  codes_come b c m s t first second = subst (λ n. ComesTo code n m t) (sym (length-append b c)) (comes_on code (length b) (length c) m s t first second)
+  pub codes_come : (b c : List Operation) (m s t : Machine) → GoesTo code (length b) m s → GoesTo code (length c) s t → GoesTo code (length (b ++ c)) m t
+  codes_come b c m s t first second = subst (λ n. GoesTo code n m t) (sym (length-append b c)) (comes_on code (length b) (length c) m s t first second)
 
   pub codes_both : {f g h : ℕ → Bool} {P Q R : (ℕ → ℕ) → Type 0} {w z : Mapped → Mapped} (b c : List Operation) (m s t : Machine)
-      → ComesTo code (length b) m s → Leaves f P w (4 * length b) m s → ComesTo code (length c) s t → Leaves g Q z (4 * length c) s t
+      → GoesTo code (length b) m s → Leaves f P w (4 * length b) m s → GoesTo code (length c) s t → Leaves g Q z (4 * length c) s t
       → ((q : ℕ) → h q ≡ false → (f q ≡ false) × (g q ≡ false)) → R t.registers
-      → (t : Machine) × ComesTo code (length (b ++ c)) m t × Leaves h R (λ x. z (w x)) (4 * length (b ++ c)) m t
+      → (t : Machine) × GoesTo code (length (b ++ c)) m t × Leaves h R (λ x. z (w x)) (4 * length (b ++ c)) m t
   codes_both b c m s t first left second right apart value =
       let size = length-append b c in
       (t, codes_come b c m s t first second, leaves_both m s t left right (omega (arith, size)) apart value)
 
   -- a branch goes first
   pub runs_behind : {f : ℕ → Bool} {P : (ℕ → ℕ) → Type 0} {w : Mapped → Mapped} {a c : ℕ} (b n : ℕ) (m t : Machine)
-      → let s = machine_with m m.registers (m.counter + b) in ComesTo code 1 m s → ComesTo code n s t → Leaves f P w a s t → c ≡ b + a
-      → (t : Machine) × ComesTo code (1 + n) m t × Leaves f P w c m t
+      → let s = machine_with m m.registers (m.counter + b) in GoesTo code 1 m s → GoesTo code n s t → Leaves f P w a s t → c ≡ b + a
+      → (t : Machine) × GoesTo code (1 + n) m t × Leaves f P w c m t
   runs_behind b n m t first second does size = (
     t,
     comes_on code 1 n m (machine_with m m.registers (m.counter + b)) t first second,

@@ -14,7 +14,7 @@ use Rattle.cm_isa.specs.Operation.{Operation, ecall}
 use Rattle.cm_isa.specs.Alu.{int, word, bit, all_ones}
 use Rattle.cm_isa.specs.Machine.{Machine, Code, machine_after, machine_with}
 use Rattle.cm_isa.specs.Action.{follow}
-use Rattle.cm_isa.specs.Run.{ComesTo}
+use Rattle.cm_gen.specs.Returns.{plain, link_of, GoesTo}
 use Rattle.cm_isa.specs.Register.{with_register}
 use Rattle.cm_gen.specs.Assembler.{bne, div, rem}
 use Rattle.cm_isa.specs.declared.convention.TheConstants as reg
@@ -138,23 +138,23 @@ zero_bits (negsuc n) h = cc h
 module _ (code : Code) (m : Machine) (zero_is : m.registers reg.ZERO ≡ 0) where
   -- some instructions put the value into VALUE
   abbrev pub Computes : List Operation → ℤ → Type 0
-  Computes is v = (n : ℕ) × (t : Machine) × ComesTo code n m t × Sets reg.VALUE (bits v) (4 * length is) m t
+  Computes is v = (n : ℕ) × (t : Machine) × GoesTo code n m t × Sets reg.VALUE (bits v) (4 * length is) m t
 
   abbrev valued : ℕ → Option Machine
   valued w = Some (machine_with m (with_register m.registers reg.VALUE w) (follow m.counter))
 
   -- one instruction does, or two
-  one : (i : Operation) (v : ℤ) (w : ℕ) → IsCodeAt code m.counter (i ∷ []) → machine_after i m ≡ valued w → w ≡ bits v → Computes (i ∷ []) v
-  one i v w here effect means =
+  one : (i : Operation) → link_of i ≡ plain → (v : ℤ) (w : ℕ) → IsCodeAt code m.counter (i ∷ []) → machine_after i m ≡ valued w → w ≡ bits v → Computes (i ∷ []) v
+  one i is_plain v w here effect means =
       let below = here.below in
-      let ran = sets_by_one code i reg.VALUE (bits v) m refl (omega (arith, below)) here.there.0 (effect ∙ ap valued means) in
+      let ran = sets_by_one code i is_plain reg.VALUE (bits v) m refl (omega (arith, below)) here.there.0 (effect ∙ ap valued means) in
       (1, ran.0, ran.1, ran.2)
 
-  two : (i j : Operation) (v : ℤ) (u : ℕ) (f : ℕ → ℕ) → IsCodeAt code m.counter (i ∷ j ∷ []) → machine_after i m ≡ valued u
+  two : (i j : Operation) → link_of i ≡ plain → link_of j ≡ plain → (v : ℤ) (u : ℕ) (f : ℕ → ℕ) → IsCodeAt code m.counter (i ∷ j ∷ []) → machine_after i m ≡ valued u
       → ((t : Machine) → Sets reg.VALUE u 4 m t → machine_after j t ≡ Some (machine_with t (with_register t.registers reg.VALUE (f (t.registers reg.VALUE))) (follow t.counter))) → f u ≡ bits v → Computes (i ∷ j ∷ []) v
-  two i j v u f here effect next means =
+  two i j plain_i plain_j v u f here effect next means =
       let below = here.below in
-      let ran = sets_by_two code i j reg.VALUE u (bits v) m refl (omega (arith, below)) here.there.0 here.there.1.0 effect
+      let ran = sets_by_two code i j plain_i plain_j reg.VALUE u (bits v) m refl (omega (arith, below)) here.there.0 here.there.1.0 effect
       (λ t does. next t does ∙ ap (λ w. Some (machine_with t (with_register t.registers reg.VALUE w) (follow t.counter))) (ap f does.value ∙ means)) in
       (2, ran.0, ran.1, ran.2)
 
@@ -163,9 +163,9 @@ module _ (code : Code) (m : Machine) (zero_is : m.registers reg.ZERO ≡ 0) wher
 
   -- a unary operator
   pub prefix_runs : (o : Op) (a v : ℤ) → FitsSigned w32 a → m.registers reg.VALUE ≡ bits a → unary_value o a ≡ Some v → IsCodeAt code m.counter (prefix_code o) → Computes (prefix_code o) v
-  prefix_runs op.Neg a v x value e here = given (prefix_code op.Neg) _ v e (one _ (wrap (pos 0 -ℤ a)) _ here refl (rw (zero_is, value) (ap (λ z. word (pos 0 -ℤ z)) (words.int-cast_unsigned a x) ∙ sym (words.cast_unsigned-wrap (pos 0 -ℤ a)))))
-  prefix_runs op.Not a v x value e here = given (prefix_code op.Not) _ v e (one _ (truth_value (is_zero a)) _ here refl (rw value (not_is a x)))
-  prefix_runs op.Flip a v x value e here = given (prefix_code op.Flip) _ v e (one _ (int_bit_not w32 a) _ here refl (rw value (flip_is a x)))
+  prefix_runs op.Neg a v x value e here = given (prefix_code op.Neg) _ v e (one _ refl (wrap (pos 0 -ℤ a)) _ here refl (rw (zero_is, value) (ap (λ z. word (pos 0 -ℤ z)) (words.int-cast_unsigned a x) ∙ sym (words.cast_unsigned-wrap (pos 0 -ℤ a)))))
+  prefix_runs op.Not a v x value e here = given (prefix_code op.Not) _ v e (one _ refl (truth_value (is_zero a)) _ here refl (rw value (not_is a x)))
+  prefix_runs op.Flip a v x value e here = given (prefix_code op.Flip) _ v e (one _ refl (int_bit_not w32 a) _ here refl (rw value (flip_is a x)))
   prefix_runs _ a v x value e here = absurd (none-some v e)
 
   -- a binary operator
@@ -180,18 +180,18 @@ module _ (code : Code) (m : Machine) (zero_is : m.registers reg.ZERO ≡ 0) wher
     nonzero no_zero = ne_eqb (bits b) 0 (nonzero_bits b y no_zero)
 
     -- an instruction behind the test of a divisor, which passes
-    tested : (i : Operation) (v : ℤ) (w : ℕ) → is_zero b ≡ false → IsCodeAt code m.counter (test_divisor ++ i ∷ [])
+    tested : (i : Operation) → link_of i ≡ plain → (v : ℤ) (w : ℕ) → is_zero b ≡ false → IsCodeAt code m.counter (test_divisor ++ i ∷ [])
         → machine_after i (machine_with m m.registers (m.counter + 12)) ≡ Some (machine_with m (with_register m.registers reg.VALUE w) (follow (m.counter + 12))) → w ≡ bits v → Computes (test_divisor ++ i ∷ []) v
-    tested i v w no_zero here effect means =
+    tested i is_plain v w no_zero here effect means =
         let s : Machine = machine_with m m.registers (m.counter + 12) in
         let below = here.below in
         let aligned = here.aligned in
         let up = words.offset_up m.counter 12 (omega (arith, below)) in
         let four : (m.counter + 12) % 4 ≡ 0 = omega (arith, aligned) in
         let differ : (m.registers reg.VALUE == 0) ≡ false = rw (value, nonzero no_zero) refl in
-        let first = comes_by_one code (bne reg.VALUE reg.ZERO (pos 12)) m s here.there.0 (rw (zero_is, differ, up, four) refl) in
+        let first = comes_by_one code (bne reg.VALUE reg.ZERO (pos 12)) refl m s here.there.0 (rw (zero_is, differ, up, four) refl) in
         let e : m.counter + 4 + 4 + 4 ≡ m.counter + 12 = omega arith in
-        let ran = sets_by_one code i reg.VALUE (bits v) s refl (omega (arith, below)) (subst (λ p. code p i) e here.there.1.1.1.0) (effect ∙ ap (λ w. Some (machine_with m (with_register m.registers reg.VALUE w) (follow (m.counter + 12)))) means) in
+        let ran = sets_by_one code i is_plain reg.VALUE (bits v) s refl (omega (arith, below)) (subst (λ p. code p i) e here.there.1.1.1.0) (effect ∙ ap (λ w. Some (machine_with m (with_register m.registers reg.VALUE w) (follow (m.counter + 12)))) means) in
         let all = runs_behind code 12 1 m ran.0 first ran.1 ran.2 refl in
         (2, all.0, all.1, all.2)
 
@@ -203,50 +203,50 @@ module _ (code : Code) (m : Machine) (zero_is : m.registers reg.ZERO ≡ 0) wher
     quotient is z v false some_b e ran = given is z v e (ran some_b)
 
     pub operator_runs : (o : Op) (v : ℤ) → binary_value o a b ≡ Some v → IsCodeAt code m.counter (operator_code o) → Computes (operator_code o) v
-    operator_runs op.Mul v e here = given (operator_code op.Mul) _ v e (one _ (wrap (a *ℤ b)) _ here refl (joined (λ a b. a *ℤ b)))
-    operator_runs op.Div v e here = quotient (operator_code op.Div) _ v (is_zero b) refl e (λ no_zero. tested _ (wrap (int_div a b)) _ no_zero here refl (rw (left, value, nonzero no_zero) (joined_bits (λ a b. int_div a b))))
-    operator_runs op.Rem v e here = quotient (operator_code op.Rem) _ v (is_zero b) refl e (λ no_zero. tested _ (wrap (int_rem a b)) _ no_zero here refl (rw (left, value, nonzero no_zero) (joined_bits (λ a b. int_rem a b))))
-    operator_runs op.Add v e here = given (operator_code op.Add) _ v e (one _ (wrap (a +ℤ b)) _ here refl (joined (λ a b. a +ℤ b)))
-    operator_runs op.Sub v e here = given (operator_code op.Sub) _ v e (one _ (wrap (a -ℤ b)) _ here refl (joined (λ a b. a -ℤ b)))
-    operator_runs op.Shl v e here = given (operator_code op.Shl) _ v e (one _ (int_shl w32 a (shift_amount b)) _ here refl (rw (left, value) (shl_is a b y)))
-    operator_runs op.Shr v e here = given (operator_code op.Shr) _ v e (one _ (int_shr a (shift_amount b)) _ here refl (rw (left, value) (shr_is a b x y)))
-    operator_runs op.Lt v e here = given (operator_code op.Lt) _ v e (one _ (truth_value (int_lt a b)) _ here refl (rw (left, value) (less_is a b x y ∙ truth_bits (int_lt a b))))
-    operator_runs op.Le v e here = given (operator_code op.Le) _ v e (two _ _ (truth_value (int_le a b)) _ (λ u. bit_xor u 1) here refl (λ t does. refl)
+    operator_runs op.Mul v e here = given (operator_code op.Mul) _ v e (one _ refl (wrap (a *ℤ b)) _ here refl (joined (λ a b. a *ℤ b)))
+    operator_runs op.Div v e here = quotient (operator_code op.Div) _ v (is_zero b) refl e (λ no_zero. tested _ refl (wrap (int_div a b)) _ no_zero here refl (rw (left, value, nonzero no_zero) (joined_bits (λ a b. int_div a b))))
+    operator_runs op.Rem v e here = quotient (operator_code op.Rem) _ v (is_zero b) refl e (λ no_zero. tested _ refl (wrap (int_rem a b)) _ no_zero here refl (rw (left, value, nonzero no_zero) (joined_bits (λ a b. int_rem a b))))
+    operator_runs op.Add v e here = given (operator_code op.Add) _ v e (one _ refl (wrap (a +ℤ b)) _ here refl (joined (λ a b. a +ℤ b)))
+    operator_runs op.Sub v e here = given (operator_code op.Sub) _ v e (one _ refl (wrap (a -ℤ b)) _ here refl (joined (λ a b. a -ℤ b)))
+    operator_runs op.Shl v e here = given (operator_code op.Shl) _ v e (one _ refl (int_shl w32 a (shift_amount b)) _ here refl (rw (left, value) (shl_is a b y)))
+    operator_runs op.Shr v e here = given (operator_code op.Shr) _ v e (one _ refl (int_shr a (shift_amount b)) _ here refl (rw (left, value) (shr_is a b x y)))
+    operator_runs op.Lt v e here = given (operator_code op.Lt) _ v e (one _ refl (truth_value (int_lt a b)) _ here refl (rw (left, value) (less_is a b x y ∙ truth_bits (int_lt a b))))
+    operator_runs op.Le v e here = given (operator_code op.Le) _ v e (two _ _ refl refl (truth_value (int_le a b)) _ (λ u. bit_xor u 1) here refl (λ t does. refl)
         (rw (left, value) (ap (λ u. bit_xor u 1) (less_is b a y x) ∙ turned_bit (int_lt b a) ∙ ap (λ t. bits (truth_value t)) (no_more a b))))
-    operator_runs op.Gt v e here = given (operator_code op.Gt) _ v e (one _ (truth_value (int_lt b a)) _ here refl (rw (left, value) (less_is b a y x ∙ truth_bits (int_lt b a))))
-    operator_runs op.Ge v e here = given (operator_code op.Ge) _ v e (two _ _ (truth_value (int_le b a)) _ (λ u. bit_xor u 1) here refl (λ t does. refl)
+    operator_runs op.Gt v e here = given (operator_code op.Gt) _ v e (one _ refl (truth_value (int_lt b a)) _ here refl (rw (left, value) (less_is b a y x ∙ truth_bits (int_lt b a))))
+    operator_runs op.Ge v e here = given (operator_code op.Ge) _ v e (two _ _ refl refl (truth_value (int_le b a)) _ (λ u. bit_xor u 1) here refl (λ t does. refl)
         (rw (left, value) (ap (λ u. bit_xor u 1) (less_is a b x y) ∙ turned_bit (int_lt a b) ∙ ap (λ t. bits (truth_value t)) (no_more b a))))
-    operator_runs op.Eq v e here = given (operator_code op.Eq) _ v e (two _ _ (truth_value (int_eq a b)) _ (λ u. bit (nat_lt u 1)) here refl (λ t does. refl)
+    operator_runs op.Eq v e here = given (operator_code op.Eq) _ v e (two _ _ refl refl (truth_value (int_eq a b)) _ (λ u. bit (nat_lt u 1)) here refl (λ t does. refl)
         (ap (λ u. bit (nat_lt u 1)) difference ∙ difference_zero (bits a) (bits b) (words.cast_unsigned_below a x) (words.cast_unsigned_below b y) ∙ truth_bits (bits a == bits b) ∙ ap (λ t. bits (truth_value t)) (sym (same_bits a b x y))))
-    operator_runs op.Ne v e here = given (operator_code op.Ne) _ v e (two _ _ (truth_value (not (int_eq a b))) _ (λ u. bit (nat_lt 0 u)) here refl
+    operator_runs op.Ne v e here = given (operator_code op.Ne) _ v e (two _ _ refl refl (truth_value (not (int_eq a b))) _ (λ u. bit (nat_lt 0 u)) here refl
         (λ t does. let z : t.registers reg.ZERO ≡ 0 = does.kept reg.ZERO refl ∙ zero_is in rw z refl)
         (ap (λ u. bit (nat_lt 0 u)) difference ∙ difference_some (bits a) (bits b) (words.cast_unsigned_below a x) (words.cast_unsigned_below b y) ∙ truth_bits (not (bits a == bits b)) ∙ ap (λ t. bits (truth_value (not t))) (sym (same_bits a b x y))))
-    operator_runs op.And v e here = given (operator_code op.And) _ v e (one _ (int_bit_and w32 a b) _ here refl (rw (left, value) (let l = and_le_l (bits a) (bits b) in let h = words.cast_unsigned_below a x in bits_signed (bit_and (bits a) (bits b)) (omega (arith, l, h)))))
-    operator_runs op.Xor v e here = given (operator_code op.Xor) _ v e (one _ (int_bit_xor w32 a b) _ here refl (rw (left, value) (bits_signed (bit_xor (bits a) (bits b)) (xor_lt 32 (bits a) (bits b) (words.cast_unsigned_below a x) (words.cast_unsigned_below b y)))))
-    operator_runs op.Or v e here = given (operator_code op.Or) _ v e (one _ (int_bit_or w32 a b) _ here refl (rw (left, value) (bits_signed (bit_or (bits a) (bits b)) (or_lt 32 (bits a) (bits b) (words.cast_unsigned_below a x) (words.cast_unsigned_below b y)))))
+    operator_runs op.And v e here = given (operator_code op.And) _ v e (one _ refl (int_bit_and w32 a b) _ here refl (rw (left, value) (let l = and_le_l (bits a) (bits b) in let h = words.cast_unsigned_below a x in bits_signed (bit_and (bits a) (bits b)) (omega (arith, l, h)))))
+    operator_runs op.Xor v e here = given (operator_code op.Xor) _ v e (one _ refl (int_bit_xor w32 a b) _ here refl (rw (left, value) (bits_signed (bit_xor (bits a) (bits b)) (xor_lt 32 (bits a) (bits b) (words.cast_unsigned_below a x) (words.cast_unsigned_below b y)))))
+    operator_runs op.Or v e here = given (operator_code op.Or) _ v e (one _ refl (int_bit_or w32 a b) _ here refl (rw (left, value) (bits_signed (bit_or (bits a) (bits b)) (or_lt 32 (bits a) (bits b) (words.cast_unsigned_below a x) (words.cast_unsigned_below b y)))))
     operator_runs _ v e here = absurd (none-some v e)
 
     -- a division by 0 is at service 7
-    pub operator_traps : (o : Op) → binary_value o a b ≡ None → divides o ≡ true → IsCodeAt code m.counter (operator_code o) → (n : ℕ) × (t : Machine) × ComesTo code n m t × code t.counter ecall × (t.registers reg.SERVICE ≡ 7) × (t.registers reg.TICKS ≡ m.registers reg.TICKS)
+    pub operator_traps : (o : Op) → binary_value o a b ≡ None → divides o ≡ true → IsCodeAt code m.counter (operator_code o) → (n : ℕ) × (t : Machine) × GoesTo code n m t × code t.counter ecall × (t.registers reg.SERVICE ≡ 7) × (t.registers reg.TICKS ≡ m.registers reg.TICKS)
     operator_traps o e d here = by_operator o e d here
       where
-        trap : (i : Operation) → is_zero b ≡ true → IsCodeAt code m.counter (test_divisor ++ i ∷ []) → (n : ℕ) × (t : Machine) × ComesTo code n m t × code t.counter ecall × (t.registers reg.SERVICE ≡ 7) × (t.registers reg.TICKS ≡ m.registers reg.TICKS)
+        trap : (i : Operation) → is_zero b ≡ true → IsCodeAt code m.counter (test_divisor ++ i ∷ []) → (n : ℕ) × (t : Machine) × GoesTo code n m t × code t.counter ecall × (t.registers reg.SERVICE ≡ 7) × (t.registers reg.TICKS ≡ m.registers reg.TICKS)
         trap i zero_b here =
             let s : Machine = machine_with m m.registers (m.counter + 4) in
             let below = here.below in
             let same : m.registers reg.VALUE ≡ 0 = value ∙ zero_bits b zero_b in
             let next = follow_is m.counter (omega (arith, below)) in
-            let first = comes_by_one code (bne reg.VALUE reg.ZERO (pos 12)) m s here.there.0 (rw (zero_is, same, next) refl) in
+            let first = comes_by_one code (bne reg.VALUE reg.ZERO (pos 12)) refl m s here.there.0 (rw (zero_is, same, next) refl) in
             let at = code_front code (service (pos 7)) (i ∷ []) (code_back code (bne reg.VALUE reg.ZERO (pos 12) ∷ []) (service (pos 7) ++ i ∷ []) (omega arith) here) in
             let ran = service_runs code 7 s (omega arith) zero_is at in
             (2, ran.0, comes_on code 1 1 m s ran.0 first ran.1, ran.3, ran.2.value, ran.2.kept reg.TICKS refl)
 
         by_zero : (i : Operation) (z : ℤ) (t : Bool) → is_zero b ≡ t → (if t then None else Some z) ≡ None → IsCodeAt code m.counter (test_divisor ++ i ∷ [])
-            → (n : ℕ) × (t : Machine) × ComesTo code n m t × code t.counter ecall × (t.registers reg.SERVICE ≡ 7) × (t.registers reg.TICKS ≡ m.registers reg.TICKS)
+            → (n : ℕ) × (t : Machine) × GoesTo code n m t × code t.counter ecall × (t.registers reg.SERVICE ≡ 7) × (t.registers reg.TICKS ≡ m.registers reg.TICKS)
         by_zero i z true is e here = trap i is here
         by_zero i z false is e here = absurd (none-some z (sym e))
 
-        by_operator : (o : Op) → binary_value o a b ≡ None → divides o ≡ true → IsCodeAt code m.counter (operator_code o) → (n : ℕ) × (t : Machine) × ComesTo code n m t × code t.counter ecall × (t.registers reg.SERVICE ≡ 7) × (t.registers reg.TICKS ≡ m.registers reg.TICKS)
+        by_operator : (o : Op) → binary_value o a b ≡ None → divides o ≡ true → IsCodeAt code m.counter (operator_code o) → (n : ℕ) × (t : Machine) × GoesTo code n m t × code t.counter ecall × (t.registers reg.SERVICE ≡ 7) × (t.registers reg.TICKS ≡ m.registers reg.TICKS)
         by_operator op.Div e d here = by_zero (div reg.VALUE reg.LEFT reg.VALUE) (wrap (int_div a b)) (is_zero b) refl e here
         by_operator op.Rem e d here = by_zero (rem reg.VALUE reg.LEFT reg.VALUE) (wrap (int_rem a b)) (is_zero b) refl e here
         by_operator _ e d here = cc d

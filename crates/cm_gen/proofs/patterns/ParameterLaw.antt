@@ -8,7 +8,7 @@ use Rattle.cm_isa.specs.declared.convention.TheConstants as reg
 use Rattle.cm_isa.specs.Operation.{Operation}
 use Rattle.cm_isa.specs.Alu.{offset}
 use Rattle.cm_isa.specs.Machine.{Machine, Mapped, Code, InstructionsAt, with_word, writable, IsWritable}
-use Rattle.cm_isa.specs.Run.{ComesTo}
+use Rattle.cm_gen.specs.Returns.{GoesTo}
 use Rattle.cm_syntax.specs.declared.stmt.Slot.{Slot}
 use Rattle.cm_syntax.specs.declared.stmt.Slot.TheVariants as slot
 use Rattle.cm_syntax.specs.Extent.{extent_of}
@@ -279,7 +279,7 @@ module _ (program : Program) (page : ℕ) (f : ℕ) (calls : List ℕ) (F : Fram
     -- a register goes into a word of a slot of the new frame
     store_one : (ws : List Argument) (r i : ℕ) (o : ℤ) (m : Machine) → reg.RESULT ≤ r → m.registers reg.FP ≡ F.address → IsPlace S (length ws) i
         → IsOffset program page F.address o (place (length ws) i) → IsFramed ws m.words → m.counter < 2 ^ 30 → InstructionsAt code m.counter (store_slot r o)
-        → (t : Machine) × ComesTo code (length (store_slot r o)) m t × Puts (place (length ws) i) (m.registers r) (4 * length (store_slot r o)) m t
+        → (t : Machine) × GoesTo code (length (store_slot r o)) m t × Puts (place (length ws) i) (m.registers r) (4 * length (store_slot r o)) m t
     store_one ws r i o m high pointer there at x below code_is =
         let old = own_of (m.words (place (length ws) i)) (unset_mapped ws m.words i there x) in
         store_slot_runs code r o (place (length ws) i) old.0 m (ne_eqb r reg.HELP (λ e. omega (arith, e, high))) (subst (λ p. p < 2 ^ 32) (sym pointer) at.fits) (subst (λ p. offset p o ≡ place (length ws) i) (sym pointer) at.address) at.aligned old.1 (omega (arith, below)) code_is
@@ -291,7 +291,7 @@ module _ (program : Program) (page : ℕ) (f : ℕ) (calls : List ℕ) (F : Fram
       pub framed : IsFramed ws t.words
 
     abbrev pub Does : (is : List Operation) → (ws : List Argument) → Machine → Type 0
-    Does is ws m = (t : Machine) × ComesTo code (length is) m t × HasStored ws (length is) m t
+    Does is ws m = (t : Machine) × GoesTo code (length is) m t × HasStored ws (length is) m t
 
     then_does : (a b : List Operation) (ws vs : List Argument) (m : Machine) → Does a ws m → ((t : Machine) → HasStored ws (length a) m t → Does b vs t) → Does (a ++ b) vs m
     then_does a b ws vs m first next =

@@ -8,6 +8,7 @@ use Rattle.cm_isa.specs.declared.execution.Size.TheVariants.{Whole}
 use Rattle.cm_isa.specs.Action.{follow}
 use Rattle.cm_isa.specs.Machine.{Machine, Code, InstructionsAt, machine_after, action_machine, machine_with, with_word, writable, reads}
 use Rattle.cm_isa.specs.Run.{ComesTo}
+use Rattle.cm_gen.specs.Returns.{plain, link_of, GoesTo}
 use Rattle.cm_isa.specs.Register.{with_register}
 
 -- the next instruction's address, where it doesn't wrap
@@ -16,17 +17,22 @@ follow_is p h = omega arith
 
 module _ (code : Code) where
   -- one step
-  pub comes_by_one : (i : Operation) (m next : Machine) → code m.counter i → machine_after i m ≡ Some next → ComesTo code 1 m next
-  comes_by_one i m next code_is effect = (next, record { instruction = i; there = code_is; effect = effect }, refl)
+  pub comes_by_one : (i : Operation) → link_of i ≡ plain → (m next : Machine) → code m.counter i → machine_after i m ≡ Some next → GoesTo code 1 m next
+  comes_by_one i is_plain m next code_is effect = (next, record { instruction = i; there = code_is; effect = effect }, is_plain, refl)
 
   -- steps after steps
-  pub comes_on : (a b : ℕ) (m n o : Machine) → ComesTo code a m n → ComesTo code b n o → ComesTo code (a + b) m o
+  pub comes_on : (a b : ℕ) (m n o : Machine) → GoesTo code a m n → GoesTo code b n o → GoesTo code (a + b) m o
   comes_on zero b m n o first second =
       let e : 0 + b ≡ b = omega arith in
-      subst (λ k. ComesTo code k m o) (sym e) (subst (λ q. ComesTo code b q o) (sym first) second)
+      subst (λ k. GoesTo code k m o) (sym e) (subst (λ q. GoesTo code b q o) (sym first) second)
   comes_on (suc a) b m n o first second =
       let e : suc a + b ≡ suc (a + b) = omega arith in
-      subst (λ k. ComesTo code k m o) (sym e) (first.0, first.1, comes_on a b first.0 n o first.2 second)
+      subst (λ k. GoesTo code k m o) (sym e) (first.0, first.1, first.2, comes_on a b first.0 n o first.3 second)
+
+  -- such steps are steps of instructions
+  pub comes_by_steps : (n : ℕ) (m last : Machine) → GoesTo code n m last → ComesTo code n m last
+  comes_by_steps zero m last h = h
+  comes_by_steps (suc n) m last h = (h.0, h.1, comes_by_steps n h.0 last h.3)
 
   -- the front and the back of instructions one after another
   pub instructions_front : (p : ℕ) (a b : List Operation) → InstructionsAt code p (a ++ b) → InstructionsAt code p a

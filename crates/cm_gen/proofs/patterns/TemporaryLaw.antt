@@ -4,7 +4,7 @@ use Rattle.std.proofs.Common.{◌≡◌, ℕ, ◌*◌, ◌^◌, ◌<◌, ◌≤�
 use Rattle.std.specs.Prelude.{false, ◌==◌, ℤ}
 use Rattle.cm_isa.specs.Alu.{offset}
 use Rattle.cm_isa.specs.Machine.{Machine, Code}
-use Rattle.cm_isa.specs.Run.{ComesTo}
+use Rattle.cm_gen.specs.Returns.{GoesTo}
 use Rattle.cm_isa.specs.declared.convention.TheConstants as reg
 use Rattle.cm_syntax.specs.declared.stmt.Slot.{Slot}
 use Rattle.cm_syntax.specs.declared.stmt.Program.{Program}
@@ -48,7 +48,7 @@ module _ (program : Program) (page : ℕ) where
     pub keep_runs : (ends : ℕ) (h : Stack) (j count r : ℕ) (m : Machine) → IsAtFrame (f ∷ calls) frames ends h m → 0 < ends → HasRoom program page (f ∷ calls) count → j < count → (r == reg.HELP) ≡ false
         → IsCodeAt code m.counter (store_slot r (temporary_offset (slots_here program (f ∷ calls)) j))
         → let size = length (store_slot r (temporary_offset (slots_here program (f ∷ calls)) j)) in
-        (t : Machine) × ComesTo code size m t × Keeps f calls frames ends h j (m.registers r) (4 * size) m t
+        (t : Machine) × GoesTo code size m t × Keeps f calls frames ends h j (m.registers r) (4 * size) m t
     keep_runs ends h j count r m x some room less other here =
         let o = temporary_offset (slots_here program (f ∷ calls)) j in
         let off = temporary_at_offset program page f calls frames j count x.base.shape room less in
@@ -89,7 +89,7 @@ module _ (program : Program) (page : ℕ) where
     pub temporary_runs : (j count r v : ℕ) (m : Machine) → AreFrames program page (f ∷ calls) frames → m.registers reg.FP ≡ pointer_of frames → HasRoom program page (f ∷ calls) count → j < count → (r == reg.ZERO) ≡ false → (reg.FP == r) ≡ false
         → HasTemporary program page (f ∷ calls) frames m.words j v → IsCodeAt code m.counter (load_slot r (temporary_offset (slots_here program (f ∷ calls)) j))
         → let size = length (load_slot r (temporary_offset (slots_here program (f ∷ calls)) j)) in
-        (t : Machine) × ComesTo code size m t × Sets r v (4 * size) m t
+        (t : Machine) × GoesTo code size m t × Sets r v (4 * size) m t
     temporary_runs j count r v m shape pointer room less nonzero other there here =
         let o = temporary_offset (slots_here program (f ∷ calls)) j in
         let off = temporary_at_offset program page f calls frames j count shape room less in

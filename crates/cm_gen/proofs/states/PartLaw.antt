@@ -63,7 +63,7 @@ others_under n h whole p u = record { words = λ d s i l. beside_absent (h.words
 -- ---- words
 
 -- a value that a cell has is a word
-abbrev CellFits : Cell ℤ → Type 0
+abbrev pub CellFits : Cell ℤ → Type 0
 CellFits c = (v : ℤ) → value_in c ≡ Some v → FitsSigned w32 v
 
 -- and so all of a stack
@@ -76,7 +76,7 @@ absent_fits v e = absurd (none-some v e)
 unset_fits : CellFits unset
 unset_fits v e = absurd (none-some v e)
 
-present_fits : (w : ℤ) → FitsSigned w32 w → CellFits (present w)
+pub present_fits : (w : ℤ) → FitsSigned w32 w → CellFits (present w)
 present_fits w f v e = subst (FitsSigned w32) (same_Some w v e) f
 
 if_fits : (q : Bool) (a b : Cell ℤ) → CellFits a → CellFits b → CellFits (if q then a else b)

@@ -11,7 +11,7 @@ use Rattle.cm_gen.specs.declared.form.Form.TheVariants.{Serial}
 use Rattle.cm_gen.specs.Formed.{Formed, KeepsFormed}
 use Rattle.cm_gen.specs.Build.{max_image_words}
 use Rattle.cm_gen.specs.Image.{image_of}
-use Rattle.cm_gen.specs.StandsFor.{Spot, ExactAt, LeadsFrom}
+use Rattle.cm_gen.specs.StandsFor.{Spot, first_spot, ExactAt, LeadsFrom}
 use Rattle.cm_serial.specs.Run.{stack_bytes}
 use Rattle.cm_serial.proofs.ElisionLaw.{follows}
 use Rattle.cm_serial.proofs.StartLaw.{runs_of, code_within, ecall_below}
@@ -34,4 +34,4 @@ returns c = λ program input limits words m e sound ranges few fits are short st
     let typed = sound_typed program sound in
     let most = ranges.most_ticks in
     follows program limits input code runs (ecall_below words (image_of program Serial limits.page) are short) takes keeps (first_control program limits) empty_stack ends.0 e
-    typed (typed_start program account typed) (omega (arith, most)) first ends.1 m start.mapped stands
+    typed (typed_start program account typed) (omega (arith, most)) first ends.1 m start.mapped (first_spot, stands)
