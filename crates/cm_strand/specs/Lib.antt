@@ -1,0 +1,15 @@
+pub mod Owned
+pub mod Piece
+pub mod Running
+pub mod Walk
+pub mod Strand
+pub mod Seen
+pub mod Root
+pub mod Due
+pub mod Fall
+pub mod Standing
+pub mod Turn
+pub mod Outcome
+pub mod Unshared
+pub mod Law
+pub mod Row
