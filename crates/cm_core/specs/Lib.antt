@@ -1,0 +1,13 @@
+pub mod Table
+pub mod State
+pub mod Event
+pub mod Turn
+pub mod Row
+pub mod Held
+pub mod Script
+pub mod Valid
+pub mod Goes
+pub mod Post
+pub mod Owner
+pub mod Share
+pub mod Law
